@@ -1,0 +1,4 @@
+pub mod Rows
+pub mod Rules
+pub mod Chunks
+pub mod Said

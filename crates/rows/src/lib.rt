@@ -1,0 +1,5 @@
+// The meaning of the library: rows, runs, and the rules that every call follows.
+pub mod chunk;
+pub mod said;
+pub mod selector;
+pub mod strategy;
