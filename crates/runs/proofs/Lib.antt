@@ -1,0 +1,4 @@
+pub mod PlaceLaws
+pub mod RunPlaceLaws
+pub mod SinkLaws
+pub mod RawLaws
