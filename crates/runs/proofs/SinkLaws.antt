@@ -47,6 +47,6 @@ module _ (whole ks xs p ys : List Bool) (inv : ks ++ xs ≡ whole) (taken : xs �
 pub admits : (l : Layer) (cap cost : ℕ) → _≡_ {A = Verdict} (Ok tt) (admitted l cap cost) → cost ≤ cap
 admits l cap cost e = go (ltb cap cost) refl
   where
-  go : (b : Bool) → ltb cap cost ≡ b → cost ≤ cap
-  go true h = absurd (let f : _≡_ {A = Verdict} (Ok tt) (Err (no 12 cost l)) = e ∙ ap (λ b. cond b (refused 12 cost l) (Ok tt)) h in let z : _≡_ {A = ℕ} 0 1 = cc in omega arith)
-  go false h = ltb-false cap cost h
+    go : (b : Bool) → ltb cap cost ≡ b → cost ≤ cap
+    go true h = absurd (let f : _≡_ {A = Verdict} (Ok tt) (Err (no 12 cost l)) = e ∙ ap (λ b. cond b (refused 12 cost l) (Ok tt)) h in let z : _≡_ {A = ℕ} 0 1 = cc in omega arith)
+    go false h = ltb-false cap cost h

@@ -29,7 +29,7 @@ untouched-chain s t u grown a b =
     let k = u .len in
     let e : n + (k - n) ≡ k = omega arith in
     let rest : drop k (t .slots .now) ≡ drop k (s .slots .now) =
-        ap (λ j. drop j (t .slots .now)) (sym e) ∙ sym (drop-drop (k - n) n (t .slots .now)) ∙ ap (drop (k - n)) (a .2) ∙ drop-drop (k - n) n (s .slots .now) ∙ ap (λ j. drop j (s .slots .now)) e in
+    ap (λ j. drop j (t .slots .now)) (sym e) ∙ sym (drop-drop (k - n) n (t .slots .now)) ∙ ap (drop (k - n)) (a .2) ∙ drop-drop (k - n) n (s .slots .now) ∙ ap (λ j. drop j (s .slots .now)) e in
     (b .0 ∙ a .0, b .1 ∙ a .1, b .2 ∙ rest)
 
 -- a run list has as many whole runs as runs

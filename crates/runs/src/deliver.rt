@@ -16,9 +16,7 @@ fn fresh(last: Option<bool>, mark: bool) -> usize
     ensures { λ r. ⌜ r ≡ begins last mark ⌝ }
 {
     match last {
-        Some(old) => {
-            if old == mark { 0 } else { 1 }
-        }
+        Some(old) => { if old == mark { 0 } else { 1 } }
         None => 1,
     }
 }

@@ -20,7 +20,13 @@ impl<S: RunSource> Held<S> {
     pub fn new(source: S) -> Held<S>
         ensures { λ r. ⌜ heldRows (S·RunSource .rows) r ≡ S·RunSource .rows source ⌝ }
     {
-        Held { source, run: RowSelector { row_count: 0, skip: true } }
+        Held {
+            source,
+            run: RowSelector {
+                row_count: 0,
+                skip: true,
+            },
+        }
     }
 
     // Whether a row is left; then the run begun has one.

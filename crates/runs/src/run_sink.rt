@@ -25,14 +25,22 @@ impl<'a> RunPlace<'a> {
         ensures same { λ r. ⌜ name (r .list .slots) ≡ name (runs .entry) ⌝ ∗ ⌜ now (r .list .slots) ≡ now (runs .entry) ⌝ }
         ensures empty { λ r. ⌜ r .list .len ≡ 0 ⌝ }
     {
-        RunPlace { list: Place::new(runs), all: 0, selected: 0 }
+        RunPlace {
+            list: Place::new(runs),
+            all: 0,
+            selected: 0,
+        }
     }
 
     // The run list that it holds.
     pub fn list(&self) -> RunList<'_>
         ensures { λ r. ⌜ now (r .runs) ≡ held (now (self .entry) .list) ⌝ }
     {
-        RunList { runs: self.list.items(), all: self.all, selected: self.selected }
+        RunList {
+            runs: self.list.items(),
+            all: self.all,
+            selected: self.selected,
+        }
     }
 
     // The last run, where it has this skip mark.
@@ -52,8 +60,14 @@ impl<'a> RunPlace<'a> {
         ensures rows { λ _. ⌜ runRows (held (now (self .exit) .list)) ≡ runRows (held (now (self .entry) .list)) ++ runOf (record { «row_count» = more; skip = last .skip }) ⌝ }
         ensures rest { λ _. ⌜ Untouched (now (self .entry) .list) (now (self .exit) .list) ⌝ }
     {
-        let run = RowSelector { row_count: more, skip: last.skip };
-        self.list.replace_last(RowSelector { row_count: last.row_count + more, skip: last.skip });
+        let run = RowSelector {
+            row_count: more,
+            skip: last.skip,
+        };
+        self.list.replace_last(RowSelector {
+            row_count: last.row_count + more,
+            skip: last.skip,
+        });
         self.all += more;
         self.selected += run.selected();
     }

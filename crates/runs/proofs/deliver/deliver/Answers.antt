@@ -20,4 +20,5 @@ returns g c =
     record {
       verdict = c .in-Continue-admit .ensures tt ∙ ap (admitted (k .layer) (k .capacity (c .args .out .now))) price;
       written = c .pour .ensures .rows;
-      rest = k .chain _ _ _ rows (c .pour .ensures .rows ∙ ap (λ l. l ++ rows) (sym (c .clear .ensures .none))) (c .clear .ensures .rest) (c .pour .ensures .rest) }
+      rest = k .chain _ _ _ rows (c .pour .ensures .rows ∙ ap (λ l. l ++ rows) (sym (c .clear .ensures .none))) (c .clear .ensures .rest) (c .pour .ensures .rest);
+    }

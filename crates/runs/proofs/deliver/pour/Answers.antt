@@ -18,8 +18,8 @@ unreachable-requires g c κs =
     let k = g .K·RowSink in
     let inv = c .loop-run .inv in
     c .if-not-put .ensures tt .takes .0
-      (subst (λ n. Room (k .cost) n (k .rows (c .loop-run .out) ++ runOf (c .in-Some .run′))) (sym (inv .1))
-        (pour-room _ (k .rows (c .loop-run .out)) (g .P·Pieces .rows (c .loop-run .rest)) (runOf (c .in-Some .run′)) (g .P·Pieces .rows (c .piece .last .self)) (inv .0) (c .in-Some .ensures tt .1) (k .cost) _ (k .dearer) (c .pre .room)))
+    (subst (λ n. Room (k .cost) n (k .rows (c .loop-run .out) ++ runOf (c .in-Some .run′))) (sym (inv .1))
+    (pour-room _ (k .rows (c .loop-run .out)) (g .P·Pieces .rows (c .loop-run .rest)) (runOf (c .in-Some .run′)) (g .P·Pieces .rows (c .piece .last .self)) (inv .0) (c .in-Some .ensures tt .1) (k .cost) _ (k .dearer) (c .pre .room)))
 
 pub loop-run-less : need.loop-run-less
 loop-run-less g c =
@@ -29,7 +29,8 @@ pub loop-run-again : need.loop-run-again
 loop-run-again g c =
     let k = g .K·RowSink in
     let inv = c .loop-run .inv in
-    let taken = c .if-not-put .ensures tt .takes .1 in
-    (pour-more _ (k .rows (c .loop-run .out)) (g .P·Pieces .rows (c .loop-run .rest)) (runOf (c .in-Some .run′)) (g .P·Pieces .rows (c .piece .last .self)) (inv .0) (c .in-Some .ensures tt .1) _ taken,
-     c .put .ensures .stays ∙ inv .1,
-     k .chain _ _ _ (runOf (c .in-Some .run′)) taken (inv .2) (c .put .ensures .rest))
+    let taken = c .if-not-put .ensures tt .takes .1 in (
+      pour-more _ (k .rows (c .loop-run .out)) (g .P·Pieces .rows (c .loop-run .rest)) (runOf (c .in-Some .run′)) (g .P·Pieces .rows (c .piece .last .self)) (inv .0) (c .in-Some .ensures tt .1) _ taken,
+      c .put .ensures .stays ∙ inv .1,
+      k .chain _ _ _ (runOf (c .in-Some .run′)) taken (inv .2) (c .put .ensures .rest),
+    )

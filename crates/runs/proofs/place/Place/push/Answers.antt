@@ -9,4 +9,5 @@ returns g c =
     let s = c .args .self .now in
     record {
       pushed = (c .if-at-self .left, refl, take-more-set (s .slots .now) (s .len) (c .args .x) (c .if-at-self .left));
-      rest = (refl, length-set (s .slots .now) (s .len) (c .args .x), drop-set-lt _ (s .slots .now) (s .len) (c .args .x) (omega arith)) }
+      rest = (refl, length-set (s .slots .now) (s .len) (c .args .x), drop-set-lt _ (s .slots .now) (s .len) (c .args .x) (omega arith));
+    }

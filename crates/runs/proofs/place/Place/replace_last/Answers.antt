@@ -13,4 +13,5 @@ returns g c =
     let inside : s .len ≤ length (s .slots .now) = omega arith in
     record {
       replaced = (some, inside, refl, last-replaced (s .slots .now) (s .len) (c .args .x) some inside);
-      rest = (refl, length-set (s .slots .now) _ (c .args .x), drop-set-lt (s .len) (s .slots .now) _ (c .args .x) (omega arith)) }
+      rest = (refl, length-set (s .slots .now) _ (c .args .x), drop-set-lt (s .len) (s .slots .now) _ (c .args .x) (omega arith));
+    }

@@ -22,12 +22,19 @@ pub ghost-self-2 : need.ghost-self-2
 ghost-self-2 c =
     let s = c .args .self .now in
     let p = c .if-not-push .ensures tt .pushed in
-    let xs = held (s .list) in
-    (omega (arith, p .0, p .1, c .push .ensures .rest .1),
-     (ap canonical (p .2) ∙ canonical-push xs (c .args .run) (s .whole) (c .pre .apart) (c .pre .some),
-      (omega (arith, s .counted, more-rows (runRows xs) _ (c .args .run) (rows-after c)),
-       (omega (arith, s .chosen, c .selected .ensures, more-selected (runRows xs) _ (c .args .run) (rows-after c)),
-        (c .pre .few, tt)))))
+    let xs = held (s .list) in (
+      omega (arith, p .0, p .1, c .push .ensures .rest .1),
+      (
+        ap canonical (p .2) ∙ canonical-push xs (c .args .run) (s .whole) (c .pre .apart) (c .pre .some),
+        (
+          omega (arith, s .counted, more-rows (runRows xs) _ (c .args .run) (rows-after c)),
+          (
+            omega (arith, s .chosen, c .selected .ensures, more-selected (runRows xs) _ (c .args .run) (rows-after c)),
+            (c .pre .few, tt),
+          ),
+        ),
+      ),
+    )
 
 pub returns : need.returns
 returns c = record { takes = rows-after (need.at·returns c .After-selected); rest = c .push .ensures .rest }

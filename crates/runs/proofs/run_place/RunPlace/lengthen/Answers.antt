@@ -39,12 +39,19 @@ add-self-2 c =
 pub ghost-self : need.ghost-self
 ghost-self c =
     let s = c .args .self .now in
-    let xs = held (s .list) in
-    (omega (arith, after c .0, s .inside, c .replace-last .ensures .rest .1),
-     (ap canonical (after c .1) ∙ longer-canonical (butLast xs) (c .args .last) (c .args .more) xs (with-last xs (c .args .last) (c .pre .last)) (s .whole),
-      (omega (arith, s .counted, more-rows (runRows xs) _ (grown c) (rows-after c)),
-       (omega (arith, s .chosen, c .selected .ensures, more-selected (runRows xs) _ (grown c) (rows-after c)),
-        (c .pre .few, tt)))))
+    let xs = held (s .list) in (
+      omega (arith, after c .0, s .inside, c .replace-last .ensures .rest .1),
+      (
+        ap canonical (after c .1) ∙ longer-canonical (butLast xs) (c .args .last) (c .args .more) xs (with-last xs (c .args .last) (c .pre .last)) (s .whole),
+        (
+          omega (arith, s .counted, more-rows (runRows xs) _ (grown c) (rows-after c)),
+          (
+            omega (arith, s .chosen, c .selected .ensures, more-selected (runRows xs) _ (grown c) (rows-after c)),
+            (c .pre .few, tt),
+          ),
+        ),
+      ),
+    )
 
 pub returns : need.returns
 returns c = record { rows = rows-after (need.at·returns c .After-selected); rest = c .replace-last .ensures .rest }

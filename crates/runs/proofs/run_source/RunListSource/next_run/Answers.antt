@@ -41,11 +41,16 @@ pub ghost-self : need.ghost-self
 ghost-self c =
     let s = c .args .self .now in
     let xs = s .runs .now in
-    let e = cut xs (search needs) in
-    (rest-canonical xs (head xs) (tail xs) e (s .whole) .2,
-     (omega (arith, s .counted, rest-length xs (head xs) (tail xs) e),
-      (omega (arith, s .chosen, c .selected .ensures, rest-selected xs (head xs) (tail xs) e),
-       (omega (arith, s .within), tt))))
+    let e = cut xs (search needs) in (
+      rest-canonical xs (head xs) (tail xs) e (s .whole) .2,
+      (
+        omega (arith, s .counted, rest-length xs (head xs) (tail xs) e),
+        (
+          omega (arith, s .chosen, c .selected .ensures, rest-selected xs (head xs) (tail xs) e),
+          (omega (arith, s .within), tt),
+        ),
+      ),
+    )
 
 pub returns : need.returns
 returns c =

@@ -1,0 +1,4 @@
+pub mod Spares
+pub mod Left
+pub mod Written
+pub mod Shown
