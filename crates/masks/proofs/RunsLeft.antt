@@ -42,9 +42,9 @@ module _ (xs : List Bool) (i : ℕ) (b : Bool) (here : valueAt xs i ≡ Some b) 
   pub inside : i < length xs
   inside = go (ltb i (length xs)) refl
     where
-    go : (t : Bool) → ltb i (length xs) ≡ t → i < length xs
-    go true e = ltb-true i (length xs) e
-    go false e = absurd (let f : None ≡ Some b = sym (ap (λ t. cond t (Some (getD xs i false)) None) e) ∙ here in let z : _≡_ {A = ℕ} 0 1 = cc in omega arith)
+      go : (t : Bool) → ltb i (length xs) ≡ t → i < length xs
+      go true e = ltb-true i (length xs) e
+      go false e = absurd (let f : None ≡ Some b = sym (ap (λ t. cond t (Some (getD xs i false)) None) e) ∙ here in let z : _≡_ {A = ℕ} 0 1 = cc in omega arith)
 
   mark : getD xs i false ≡ b
   mark = let f : Some (getD xs i false) ≡ Some b = sym (ap (λ t. cond t (Some (getD xs i false)) None) (lt-ltb i (length xs) inside)) ∙ here in cc
@@ -73,6 +73,6 @@ module _ (xs : List Bool) (i : ℕ) (b : Bool) (here : valueAt xs i ≡ Some b) 
 pub none-left : (xs : List Bool) (i : ℕ) → valueAt xs i ≡ None → drop i xs ≡ []
 none-left xs i here = go (ltb i (length xs)) refl
   where
-  go : (t : Bool) → ltb i (length xs) ≡ t → drop i xs ≡ []
-  go true e = absurd (let f : Some (getD xs i false) ≡ None = sym (ap (λ t. cond t (Some (getD xs i false)) None) e) ∙ here in let z : _≡_ {A = ℕ} 0 1 = cc in omega arith)
-  go false e = drop-all i xs (ltb-false i (length xs) e)
+    go : (t : Bool) → ltb i (length xs) ≡ t → drop i xs ≡ []
+    go true e = absurd (let f : Some (getD xs i false) ≡ None = sym (ap (λ t. cond t (Some (getD xs i false)) None) e) ∙ here in let z : _≡_ {A = ℕ} 0 1 = cc in omega arith)
+    go false e = drop-all i xs (ltb-false i (length xs) e)

@@ -36,5 +36,5 @@ untouched-chain s t u more grown a b =
     let longer : t .len ≤ u .len = omega (arith, ap length grown, length-append (written t) more, length-rows (rowAt (t .bytes .now)) 0 (t .len), length-rows (rowAt (u .bytes .now)) 0 (u .len)) in
     let e : n + (k - n) ≡ k = omega arith in
     let rest : drop k (t .bytes .now) ≡ drop k (s .bytes .now) =
-        ap (λ j. drop j (t .bytes .now)) (sym e) ∙ sym (drop-drop (k - n) n (t .bytes .now)) ∙ ap (drop (k - n)) (a .2) ∙ drop-drop (k - n) n (s .bytes .now) ∙ ap (λ j. drop j (s .bytes .now)) e in
+    ap (λ j. drop j (t .bytes .now)) (sym e) ∙ sym (drop-drop (k - n) n (t .bytes .now)) ∙ ap (drop (k - n)) (a .2) ∙ drop-drop (k - n) n (s .bytes .now) ∙ ap (λ j. drop j (s .bytes .now)) e in
     (b .0 ∙ a .0, b .1 ∙ a .1, b .2 ∙ rest)

@@ -31,7 +31,10 @@ pub impl<'a> RunSource for MaskRunIter<'a> as MaskRunIterSource {
         };
         let to = self.mask.next_change(at);
         self.at = to;
-        Some(RowSelector { row_count: to - at, skip: !set })
+        Some(RowSelector {
+            row_count: to - at,
+            skip: !set,
+        })
     }
 }
 

@@ -23,4 +23,5 @@ returns c =
     record {
       rows = rows-append xs (s .len) (c .args .m) v (c .args .set) (c .pre .room .0) (c .pre .room .1 .0) (c .topped-v .ensures .kept) (c .topped-v .ensures .added);
       len = refl;
-      rest = (refl, length-set xs (s .len / 8) v, keeps-more xs (s .len) (c .args .m) v (c .pre .some)) }
+      rest = (refl, length-set xs (s .len / 8) v, keeps-more xs (s .len) (c .args .m) v (c .pre .some));
+    }

@@ -33,11 +33,12 @@ loop-self-again c =
     let u = c .append .last .self in
     let i = c .loop-self .inv in
     let m = c .min-m .result in
-    let p = c .append .ensures in
-    (omega (arith, p .len, i .0),
-     omega (arith, p .len, c .min-m .ensures, c .loop-self-test .taken),
-     longer (written s) _ _ (not (c .args .run .skip)) (s .len) (t .len) m (u .len) (i .0) (p .len) (i .2) (p .rows),
-     untouched-chain s t u (replicate m (not (c .args .run .skip))) (p .rows) (i .3) (p .rest))
+    let p = c .append .ensures in (
+      omega (arith, p .len, i .0),
+      omega (arith, p .len, c .min-m .ensures, c .loop-self-test .taken),
+      longer (written s) _ _ (not (c .args .run .skip)) (s .len) (t .len) m (u .len) (i .0) (p .len) (i .2) (p .rows),
+      untouched-chain s t u (replicate m (not (c .args .run .skip))) (p .rows) (i .3) (p .rest),
+    )
 
 pub returns : need.returns
 returns c =
@@ -50,4 +51,5 @@ returns c =
     record {
       takes = (mask-room (s .bytes .now) (length (s .bytes .now)) (s .len) n b (omega (arith, s .few, c .if-at-n .left)) (omega (arith, c .bytes-for .ensures, c .if-self-bytes-for .left)), all-of (written s) _ b (s .len) n (t .len) all (i .2));
       stays = i .3 .1;
-      rest = i .3 }
+      rest = i .3;
+    }

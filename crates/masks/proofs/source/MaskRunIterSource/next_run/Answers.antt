@@ -25,7 +25,8 @@ returns c =
     let to = c .next-change-to .ensures in
     let n = c .next-change-to .result in
     let same = sym (not-not b) in
-    let begins = subst (λ k. drop (s .at) xs ≡ replicate (k - s .at) b ++ drop k xs) (sym to) (run-rows xs (s .at) b here) in
-    (omega (arith, to, change xs (s .at) b here, some-ahead xs (s .at) b here),
-     begins ∙ ap (λ m. replicate (n - s .at) m ++ drop n xs) same,
-     subst (λ m. NotFirst m (drop n xs)) same (subst (λ k. NotFirst b (drop k xs)) (sym to) (run-stops xs (s .at) b here)))
+    let begins = subst (λ k. drop (s .at) xs ≡ replicate (k - s .at) b ++ drop k xs) (sym to) (run-rows xs (s .at) b here) in (
+      omega (arith, to, change xs (s .at) b here, some-ahead xs (s .at) b here),
+      begins ∙ ap (λ m. replicate (n - s .at) m ++ drop n xs) same,
+      subst (λ m. NotFirst m (drop n xs)) same (subst (λ k. NotFirst b (drop k xs)) (sym to) (run-stops xs (s .at) b here)),
+    )

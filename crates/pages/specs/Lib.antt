@@ -1,0 +1,5 @@
+pub mod Pages
+pub mod Turns
+pub mod Items
+pub mod Verdicts
+pub mod Fetch

@@ -1,0 +1,2 @@
+// Selections worked out by hand, proved from the rules.
+pub mod table;
