@@ -1,13 +1,15 @@
 -- The shots at a stretch of rows. Assumes nothing.
 use mathlib.Core.Path.{_≡_, refl, sym, ap, _∙_}
-use mathlib.Core.Bool.{Bool, true, false}
-use mathlib.Core.List.{List, [], _∷_, _++_, append-assoc}
+use mathlib.Core.Bool.{Bool, true, false, _&&_}
+use mathlib.Core.List.{List, [], _∷_, _++_, map, append-assoc}
 use Prim.Native.Nat.{ℕ, zero, suc, min, _+_, _-_, _≤_}
 use native.Mathlib.Omega.{arith}
 use lib.ListN.{length, take, drop, replicate, length-drop}
 use Rattle.std.proofs.shelf.Lists.{drop-drop}
+use Rattle.rows.specs.Rules.{andThen}
 use Rattle.survey.specs.declared.shot.Shot.{Shot}
-use Rattle.survey.specs.Filters.{picked}
+use Rattle.survey.specs.declared.filter.Filter.{Filter}
+use Rattle.survey.specs.Filters.{passes, passesBoth, picked}
 
 no-shots : (xs : List Bool) → picked xs [] ≡ []
 no-shots [] = refl
@@ -44,3 +46,13 @@ module _ (whole found : List Shot) (rows xs : List Bool) (n m at : ℕ) (shots :
 
 pub none-left : (rows : List Bool) (shots : List Shot) → rows ≡ [] → picked rows shots ≡ []
 none-left rows shots e = ap (λ r. picked r shots) e
+
+-- a second filter that judges the shots which a first one left, put back by rank, keeps just the shots that pass both
+module _ (f g : Filter) where
+  pub both-filters : (ss : List Shot) → andThen (map (passes f) ss) (map (passes g) (picked (map (passes f) ss) ss)) ≡ map (passesBoth f g) ss
+  both-filters [] = refl
+  both-filters (s ∷ ss) = step (passes f s) (both-filters ss)
+    where
+      step : (b : Bool) → andThen (map (passes f) ss) (map (passes g) (picked (map (passes f) ss) ss)) ≡ map (passesBoth f g) ss → andThen (b ∷ map (passes f) ss) (map (passes g) (picked (b ∷ map (passes f) ss) (s ∷ ss))) ≡ (b && passes g s) ∷ map (passesBoth f g) ss
+      step true e = ap (λ l. passes g s ∷ l) e
+      step false e = ap (λ l. false ∷ l) e

@@ -20,6 +20,10 @@ valueIn Inclination s = s .inclination
 abbrev pub passes : Filter → Shot → Bool
 passes f s = leZ (f .least) (valueIn (f .field) s) && leZ (valueIn (f .field) s) (f .most)
 
+-- a shot passes two filters
+abbrev pub passesBoth : Filter → Filter → Shot → Bool
+passesBoth f g s = passes f s && passes g s
+
 -- the shots at the selected rows, in order
 abbrev pub picked : List Bool → List Shot → List Shot
 picked [] ss = []

@@ -6,7 +6,7 @@ use refusals::refusal::Layer;
 use std::test::*;
 
 // A refusal by number, place and layer; 0 for a call that was done.
-pub fn told<T: Drop>(r: Result<T, SelectionFault>) -> (u8, usize, &'static str) {
+pub(crate) fn told<T: Drop>(r: Result<T, SelectionFault>) -> (u8, usize, &'static str) {
     match r {
         Ok(_) => (0, 0, "done"),
         Err(fault) => {

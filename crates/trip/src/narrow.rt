@@ -1,4 +1,11 @@
 // Both filters, and the pages of each column, in one form of selection or the other.
+ghost use mathlib.Core.Path.{_≡_};
+ghost use mathlib.Core.List.{map};
+ghost use Rattle.std.specs.Of.Vec.{vec-items};
+ghost use Rattle.std.specs.Results.{Cases as ByOk};
+ghost use Rattle.rows.specs.Rows.{runRows};
+ghost use Rattle.survey.specs.Filters.{passes, picked};
+ghost use Rattle.trip.specs.Narrowed.{FoundRows, Narrowed};
 use algebra::and_then::and_then;
 use algebra::strategy::auto_selection_strategy;
 use bits::mask::Mask;
@@ -33,7 +40,7 @@ use tripfile::trip::Trip;
 
 // What was found one way: rows kept after each filter, the runs left, the ranges of each column, and the form to read in.
 #[derive(Drop)]
-pub struct Found {
+pub(crate) struct Found {
     pub first: usize,
     pub second: usize,
     pub runs: Vec<RowSelector>,
@@ -47,10 +54,26 @@ fn filter_into<K: RowSink>(
     filter: Filter,
     shots: &[Shot],
     out: &mut K,
-) -> Result<(), TripFault> {
+) -> Result<(), TripFault>
+    ensures { λ r. ⌜ ByOk r (λ _. K·RowSink .rows (now (out .exit)) ≡ map (passes filter) (now (shots .entry))) (λ _. Unit {0}) ⌝ }
+{
     let raw = judge(heap, filter, shots)?;
     collect_runs(raw.as_slice(), out)?;
     Ok(())
+}
+
+// The rows of a second filter, which judges only the shots that the first left.
+fn second_into<A: CountedSource, K: RowSink>(
+    heap: Global,
+    filter: Filter,
+    shots: &[Shot],
+    first: A,
+    out: &mut K,
+) -> Result<(), TripFault>
+    ensures { λ r. ⌜ ByOk r (λ _. K·RowSink .rows (now (out .exit)) ≡ map (passes filter) (picked (A·RunSource .rows first) (now (shots .entry)))) (λ _. Unit {0}) ⌝ }
+{
+    let left = kept(heap, first, shots)?;
+    filter_into(heap, filter, left.as_slice(), out)
 }
 
 // The runs of a source.
@@ -58,7 +81,9 @@ fn runs_of<S: CountedSource>(
     heap: Global,
     source: S,
     most: usize,
-) -> Result<Vec<RowSelector>, TripFault> {
+) -> Result<Vec<RowSelector>, TripFault>
+    ensures { λ r. ⌜ ByOk r (λ v. runRows (vec-items v) ≡ S·RunSource .rows source) (λ _. Unit {0}) ⌝ }
+{
     let mut slots = vec![in heap; RowSelector::skip(0); most]?;
     let mut place = RunPlace::new(slots.as_mut_slice());
     convert(source, &mut place)?;
@@ -91,26 +116,31 @@ fn outcome<A: CountedSource, B: CountedSource>(
     trip: &Trip,
     first: A,
     both: B,
-) -> Result<Found, TripFault> {
+) -> Result<Found, TripFault>
+    ensures { λ r. ⌜ ByOk r (λ f. FoundRows (now (trip .entry) .threshold) (A·RunSource .rows first) (B·RunSource .rows both) f) (λ _. Unit {0}) ⌝ }
+{
+    let runs = runs_of(heap, both, trip.shots.len())?;
+    let ranges = ranges_of(heap, trip, both)?;
     Ok(Found {
         first: first.selected_left(),
         second: both.selected_left(),
-        runs: runs_of(heap, both, trip.shots.len())?,
-        ranges: ranges_of(heap, trip, both)?,
+        runs,
+        ranges,
         strategy: auto_selection_strategy(both, trip.threshold),
     })
 }
 
 // In runs.
-pub fn narrow_runs(heap: Global, trip: &Trip) -> Result<Found, TripFault> {
+pub(crate) fn narrow_runs(heap: Global, trip: &Trip) -> Result<Found, TripFault>
+    ensures { λ r. ⌜ ByOk r (λ f. Narrowed (now (trip .entry)) f) (λ _. Unit {0}) ⌝ }
+{
     let shots = trip.shots.as_slice();
     let mut slots = vec![in heap; RowSelector::skip(0); shots.len()]?;
     let mut first = RunPlace::new(slots.as_mut_slice());
     filter_into(heap, trip.first, shots, &mut first)?;
-    let left = kept(heap, first.list(), shots)?;
-    let mut more = vec![in heap; RowSelector::skip(0); left.len()]?;
+    let mut more = vec![in heap; RowSelector::skip(0); shots.len()]?;
     let mut second = RunPlace::new(more.as_mut_slice());
-    filter_into(heap, trip.second, left.as_slice(), &mut second)?;
+    second_into(heap, trip.second, shots, first.list(), &mut second)?;
     let mut last = vec![in heap; RowSelector::skip(0); shots.len()]?;
     let mut both = RunPlace::new(last.as_mut_slice());
     and_then(first.list(), second.list(), &mut both)?;
@@ -118,15 +148,22 @@ pub fn narrow_runs(heap: Global, trip: &Trip) -> Result<Found, TripFault> {
 }
 
 // In masks.
-pub fn narrow_masks(heap: Global, trip: &Trip) -> Result<Found, TripFault> {
+pub(crate) fn narrow_masks(heap: Global, trip: &Trip) -> Result<Found, TripFault>
+    ensures { λ r. ⌜ ByOk r (λ f. Narrowed (now (trip .entry)) f) (λ _. Unit {0}) ⌝ }
+{
     let shots = trip.shots.as_slice();
     let mut bytes = vec![in heap; 0u8; shots.len() / 8 + 1]?;
     let mut first = MaskPlace::new(bytes.as_mut_slice());
     filter_into(heap, trip.first, shots, &mut first)?;
-    let left = kept(heap, MaskRunIter::new(first.mask()), shots)?;
-    let mut more = vec![in heap; 0u8; left.len() / 8 + 1]?;
+    let mut more = vec![in heap; 0u8; shots.len() / 8 + 1]?;
     let mut second = MaskPlace::new(more.as_mut_slice());
-    filter_into(heap, trip.second, left.as_slice(), &mut second)?;
+    second_into(
+        heap,
+        trip.second,
+        shots,
+        MaskRunIter::new(first.mask()),
+        &mut second,
+    )?;
     let mut last = vec![in heap; 0u8; shots.len() / 8 + 1]?;
     let mut both = MaskPlace::new(last.as_mut_slice());
     and_then(

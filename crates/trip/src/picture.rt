@@ -7,7 +7,7 @@ use std::alloc::Global;
 use tripfile::trip::Column;
 
 // The rows from one up to another: '#' where kept, '.' where not.
-pub fn rows_line(
+pub(crate) fn rows_line(
     heap: Global,
     runs: &[RowSelector],
     from: usize,
@@ -52,7 +52,7 @@ fn row_or(row: i64, other: usize) -> usize {
 }
 
 // The rows from one up to another, each as its page's letter.
-pub fn pages_line(
+pub(crate) fn pages_line(
     heap: Global,
     column: &Column,
     ranges: &[ByteRange],

@@ -100,7 +100,12 @@ fn print_picture(rt: &LibcRuntime, trip: &Trip, found: &Found) -> io::Result<()>
     Ok(())
 }
 
-pub fn print_report(rt: &LibcRuntime, trip: &Trip, runs: &Found, masks: &Found) -> io::Result<()> {
+pub(crate) fn print_report(
+    rt: &LibcRuntime,
+    trip: &Trip,
+    runs: &Found,
+    masks: &Found,
+) -> io::Result<()> {
     let name = trip.name.as_str();
     let shots = trip.shots.len();
     let first = runs.first;
