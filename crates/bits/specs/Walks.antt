@@ -1,7 +1,7 @@
 -- What a step of a walk over the selected rows gives.
 use mathlib.Core.Path.{_≡_}
 use mathlib.Core.Bool.{Bool, true, false}
-use mathlib.Core.List.{List, [], _∷_, _++_}
+use mathlib.Core.List.{List, [], _++_}
 use Prim.Native.Nat.{ℕ, _-_, _≤_, _<_}
 use lib.ListN.{drop, replicate}
 use Rattle.std.specs.declared.option.Option.{Option}
@@ -32,8 +32,3 @@ pub record Spanned (p : ℕ) (xs : List Bool) (start end q : ℕ) (ys : List Boo
 abbrev pub Span : ℕ → List Bool → Option RowSpan → ℕ → List Bool → Type 0
 Span p xs None q ys = (selectedCount xs ≡ 0) × (ys ≡ [])
 Span p xs (Some s) q ys = Spanned p xs (s .start) (s .end) q ys
-
--- a step that gives the first of the items xs and leaves ys: none where there are no items
-abbrev pub Given : List ℕ → Option ℕ → List ℕ → Type 0
-Given xs None ys = (xs ≡ []) × (ys ≡ [])
-Given xs (Some x) ys = xs ≡ x ∷ ys

@@ -2,7 +2,8 @@
 ghost use mathlib.Core.Path.{_≡_};
 ghost use Rattle.rows.specs.Rows.{chosen};
 ghost use Rattle.bits.specs.Masks.{rows};
-ghost use Rattle.bits.specs.Walks.{indicesLeft, Given};
+ghost use Rattle.rows.specs.Items.{Given};
+ghost use Rattle.bits.specs.Walks.{indicesLeft};
 use crate::mask::Mask;
 use crate::search::stretch_end;
 use crate::walks::SetIndices;

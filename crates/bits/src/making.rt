@@ -14,8 +14,7 @@ use crate::word::bit_at;
 use refusals::fault::BitsFault;
 use refusals::fault::FromBits;
 use refusals::fault::SelectionFault;
-
-const ROW_LIMIT: usize = 1_073_741_824;
+use rows::limit::ROW_LIMIT;
 
 // Whether `len` rows from bit `offset` on lie in the bytes. The number of bits may pass a usize, so whole bytes are compared first.
 fn within(bytes: &[u8], offset: usize, len: usize) -> Result<(), BitsFault>

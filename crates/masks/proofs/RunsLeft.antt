@@ -1,16 +1,16 @@
 -- The leading run of what is left of a mask. Assumes nothing.
 use mathlib.Core.Path.{_≡_, refl, sym, ap, subst, _∙_}
-use mathlib.Core.Bool.{Bool, true, false, not, cond}
+use mathlib.Core.Bool.{Bool, true, false, cond}
 use mathlib.Core.List.{List, [], _∷_, _++_}
-use Prim.Native.Nat.{ℕ, zero, suc, _+_, _-_, _≤_, _<_}
+use Prim.Native.Nat.{ℕ, _+_, _-_, _<_}
 use native.Mathlib.Omega.{arith}
 use lib.Dec.{ltb}
-use lib.ListN.{length, getD, drop, replicate, length-drop}
+use lib.ListN.{length, getD, drop, replicate}
 use Rattle.std.specs.declared.option.Option.{Option}
 use Rattle.std.specs.declared.option.Option.the-variants.{Some, None}
 use Rattle.std.proofs.shelf.Lists.{drop-drop, drop-more, drop-all}
 use Rattle.std.proofs.shelf.Tests.{lt-ltb, ltb-false, ltb-true, true≢false}
-use Rattle.rows.specs.Rows.{same, NotFirst}
+use Rattle.rows.specs.Rows.{NotFirst}
 use Rattle.rows.specs.Chunks.{leading}
 use Rattle.bits.specs.Masks.{valueAt, nextChange}
 
@@ -28,10 +28,6 @@ stops true (true ∷ xs) = stops true xs
 stops true (false ∷ xs) = λ e. true≢false (sym e)
 stops false (false ∷ xs) = stops false xs
 stops false (true ∷ xs) = λ e. true≢false e
-
-same-same : (b : Bool) → same b b ≡ true
-same-same true = refl
-same-same false = refl
 
 some-lead : (b : Bool) (xs : List Bool) → 0 < leading b (b ∷ xs)
 some-lead true xs = omega arith

@@ -1,12 +1,12 @@
 -- Proofs that the ghost members of this crate hold: they stand here, since a source file cites only its crate's specs. Assumes nothing.
-use mathlib.Core.Path.{_≡_, refl, sym, ap, _∙_}
+use mathlib.Core.Path.{_≡_, refl, ap, _∙_}
 use mathlib.Core.Bool.{Bool}
 use mathlib.Core.List.{List, _++_}
-use Prim.Native.Nat.{ℕ, _+_, _-_, _≤_}
+use Prim.Native.Nat.{ℕ, _≤_}
 use native.Mathlib.Omega.{arith}
-use lib.ListN.{length, drop, length-append, length-drop}
-use Rattle.std.proofs.shelf.Lists.{drop-drop}
+use lib.ListN.{length, length-append, length-drop}
 use Rattle.rows.specs.Rows.{rowLimit}
+use Rattle.runs.specs.Shown.{same-later}
 use Rattle.bits.specs.Bits.{rowAt}
 use Rattle.bits.specs.Masks.{rows}
 use Rattle.bits.proofs.RowLaws.{length-rows}
@@ -31,10 +31,6 @@ untouched-same s = (refl, refl, refl)
 -- what was untouched stays so where more was written after it
 pub untouched-chain : (s t u : MaskPlace) (more : List Bool) → written u ≡ written t ++ more → Untouched s t → Untouched t u → Untouched s u
 untouched-chain s t u more grown a b =
-    let n = bytesOf (t .len) in
-    let k = bytesOf (u .len) in
     let longer : t .len ≤ u .len = omega (arith, ap length grown, length-append (written t) more, length-rows (rowAt (t .bytes .now)) 0 (t .len), length-rows (rowAt (u .bytes .now)) 0 (u .len)) in
-    let e : n + (k - n) ≡ k = omega arith in
-    let rest : drop k (t .bytes .now) ≡ drop k (s .bytes .now) =
-    ap (λ j. drop j (t .bytes .now)) (sym e) ∙ sym (drop-drop (k - n) n (t .bytes .now)) ∙ ap (drop (k - n)) (a .2) ∙ drop-drop (k - n) n (s .bytes .now) ∙ ap (λ j. drop j (s .bytes .now)) e in
-    (b .0 ∙ a .0, b .1 ∙ a .1, b .2 ∙ rest)
+    let fewer : bytesOf (t .len) ≤ bytesOf (u .len) = omega arith in
+    (b .0 ∙ a .0, b .1 ∙ a .1, b .2 ∙ same-later (t .bytes .now) (s .bytes .now) (bytesOf (t .len)) (bytesOf (u .len)) fewer (a .2))

@@ -18,10 +18,9 @@ use bits::mask::Mask;
 use refusals::fault::BitsFault;
 use refusals::fault::FromBits;
 use refusals::fault::SelectionFault;
+use rows::limit::ROW_LIMIT;
 use rows::selector::RowSelector;
 use runs::sink::RowSink;
-
-const ROW_LIMIT: usize = 1_073_741_824;
 
 // The bytes that so many rows need.
 fn bytes_for(all: usize) -> usize

@@ -1,22 +1,15 @@
--- Items handed out one by one, and what a place holds after a call.
+-- What a place of items holds after a call.
 use mathlib.Core.Path.{_≡_}
 use mathlib.Core.Bool.{cond}
-use mathlib.Core.List.{List, [], _∷_}
+use mathlib.Core.List.{List}
 use Prim.Native.Nat.{ℕ}
 use lib.Dec.{ltb}
 use lib.ListN.{length, take, drop}
-use Rattle.std.specs.declared.option.Option.{Option}
-use Rattle.std.specs.declared.option.Option.the-variants.{Some, None}
 use Rattle.std.specs.declared.result.Result.{Result}
 use Rattle.std.specs.declared.result.Result.the-variants.{Ok, Err}
 use Rattle.refusals.specs.declared.fault.SelectionFault.{SelectionFault}
 use Rattle.refusals.specs.declared.refusal.Refusal.{Refusal}
 use Rattle.refusals.specs.Refusals.{refused, selection}
-
--- one item at the items xs, with ys left; none exactly when no item is left
-abbrev pub Given : {T : Type 0} → List T → Option T → List T → Type 0
-Given xs None ys = (xs ≡ []) × (ys ≡ [])
-Given xs (Some x) ys = xs ≡ x ∷ ys
 
 -- a place of the given size takes the items, and their number is told, or it is too small: 12, with the size needed
 abbrev pub stored : {T : Type 0} → ℕ → List T → Result ℕ Refusal

@@ -5,7 +5,8 @@ ghost use Prim.Native.Nat.{_+_, _<_, _≤_, _^_};
 ghost use lib.ListN.{length};
 ghost use Rattle.refusals.specs.Refusals.{verdict};
 ghost use Rattle.runs.specs.Places.{held, Untouched};
-ghost use Rattle.pages.specs.Items.{Given, stored, Stands};
+ghost use Rattle.rows.specs.Items.{Given};
+ghost use Rattle.pages.specs.Items.{stored, Stands};
 use refusals::fault::SelectionFault;
 use runs::place::Place;
 

@@ -7,9 +7,7 @@ ghost use Rattle.std.specs.declared.option.Option.the-variants.{None};
 ghost use Rattle.pages.specs.Pages.{fine, firstRow, fits, byteRange, inOrder, faultAt, nextOf, rises, lastFirst};
 use crate::page::ByteRange;
 use crate::page::PageLocation;
-
-// The most rows that a selection may have.
-pub(crate) const ROW_LIMIT: usize = 1_073_741_824;
+use rows::limit::ROW_LIMIT;
 
 // Whether nothing in it is negative and its first row is within the row limit.
 fn is_fine(page: PageLocation) -> bool

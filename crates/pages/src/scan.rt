@@ -15,10 +15,10 @@ use crate::ranges::ByteRangeItems;
 use crate::ranges::ByteRanges;
 use crate::ranges::RowRangeItems;
 use crate::ranges::RowRanges;
-use crate::reads::ROW_LIMIT;
 use crate::reads::fault_at;
 use crate::reads::last_first;
 use refusals::fault::SelectionFault;
+use rows::limit::ROW_LIMIT;
 use runs::source::CountedSource;
 use runs::source::RunSource;
 

@@ -4,7 +4,7 @@ ghost use mathlib.Core.Bool.{true};
 ghost use denote.Ref.{now};
 ghost use lib.ListN.{length};
 ghost use Rattle.runs.specs.HeldRows.{heldRows};
-ghost use Rattle.pages.specs.Items.{Given};
+ghost use Rattle.rows.specs.Items.{Given};
 ghost use Rattle.pages.specs.Pages.{rises, wantedPages};
 ghost use Rattle.pages.specs.Turns.{Turned, SoundSpan};
 use crate::page::PageLocation;

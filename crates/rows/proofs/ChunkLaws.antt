@@ -7,6 +7,7 @@ use native.Mathlib.Omega.{arith}
 use lib.ListN.{length, getD, take, drop}
 use Rattle.std.specs.declared.option.Option.{Option}
 use Rattle.std.specs.declared.option.Option.the-variants.{Some, None}
+use Rattle.std.proofs.shelf.Lists.{take-take, length-take}
 use Rattle.std.proofs.shelf.Tests.{true≢false}
 use Rattle.rows.specs.Rows.{selectedCount}
 use Rattle.rows.specs.Rules.{limit, trimmed}
@@ -58,29 +59,13 @@ loaded-stops (Some ls) s len h =
     let e : min len (s + leading true (drop s ls)) ≡ s + leading true (drop s ls) = omega arith in
     ap (λ k. Selects ls k) e ∙ sym (drop-row s ls (leading true (drop s ls))) ∙ leading-true-end (drop s ls)
 
-take-take : (m n : ℕ) (xs : List Bool) → m ≤ n → take m (take n xs) ≡ take m xs
-take-take zero n xs h = refl
-take-take (suc m) zero xs h = absurd (omega arith)
-take-take (suc m) (suc n) [] h = refl
-take-take (suc m) (suc n) (x ∷ xs) h = ap (λ l. x ∷ l) (take-take m n xs (omega arith))
-
-take-length : (n : ℕ) (xs : List Bool) → length (take n xs) ≤ n
-take-length zero xs = omega arith
-take-length (suc n) [] = omega arith
-take-length (suc n) (x ∷ xs) = omega (arith, take-length n xs)
-
-take-shorter : (n : ℕ) (xs : List Bool) → length (take n xs) ≤ length xs
-take-shorter zero xs = omega arith
-take-shorter (suc n) [] = omega arith
-take-shorter (suc n) (x ∷ xs) = omega (arith, take-shorter n xs)
-
 -- the rows of a chunk stand at the start of the rows from s on
 stands : (size n : ℕ) (ys : List Bool) → trimmed (limit size (take n ys)) ≡ take (length (trimmed (limit size (take n ys)))) ys
 stands size n ys =
     let zs = limit size (take n ys) in
     let k = length (trimmed zs) in
-    let a : k ≤ length zs = omega (arith, ap length (trimmed-front zs), take-shorter k zs) in
-    let b : length zs ≤ n = omega (arith, ap length (limited size (take n ys) .front), take-shorter (length zs) (take n ys), take-length n ys) in
+    let a : k ≤ length zs = omega (arith, ap length (trimmed-front zs), length-take k zs) in
+    let b : length zs ≤ n = omega (arith, ap length (limited size (take n ys) .front), length-take (length zs) (take n ys), length-take n ys) in
     trimmed-front zs ∙ ap (take k) (limited size (take n ys) .front) ∙ take-take k (length zs) (take n ys) a ∙ take-take k n ys (omega arith)
 
 pub chunk-rule : (size : ℕ) (loaded : Option (List Bool)) (xs : List Bool) (p : ℕ) → Chunk-rule size loaded xs p

@@ -1,3 +1,4 @@
+pub mod Items
 pub mod Rows
 pub mod Rules
 pub mod Chunks

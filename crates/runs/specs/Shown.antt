@@ -22,15 +22,15 @@ few-rows n rs e h = omega arith
 pub untouched-same : {X : Type 0} (s : Place X) → Untouched s s
 untouched-same s = (refl, refl, refl)
 
+-- what agrees from place m on agrees from any later place on
+pub same-later : {X : Type 0} (xs ys : List X) (m n : ℕ) → m ≤ n → drop m xs ≡ drop m ys → drop n xs ≡ drop n ys
+same-later xs ys m n h e =
+    let k : m + (n - m) ≡ n = omega arith in
+    ap (λ j. drop j xs) (sym k) ∙ sym (drop-drop (n - m) m xs) ∙ ap (drop (n - m)) e ∙ drop-drop (n - m) m ys ∙ ap (λ j. drop j ys) k
+
 -- what was untouched stays so where more was written after it
 pub untouched-chain : {X : Type 0} (s t u : Place X) → t .len ≤ u .len → Untouched s t → Untouched t u → Untouched s u
-untouched-chain s t u grown a b =
-    let n = t .len in
-    let k = u .len in
-    let e : n + (k - n) ≡ k = omega arith in
-    let rest : drop k (t .slots .now) ≡ drop k (s .slots .now) =
-    ap (λ j. drop j (t .slots .now)) (sym e) ∙ sym (drop-drop (k - n) n (t .slots .now)) ∙ ap (drop (k - n)) (a .2) ∙ drop-drop (k - n) n (s .slots .now) ∙ ap (λ j. drop j (s .slots .now)) e in
-    (b .0 ∙ a .0, b .1 ∙ a .1, b .2 ∙ rest)
+untouched-chain s t u grown a b = (b .0 ∙ a .0, b .1 ∙ a .1, b .2 ∙ same-later (t .slots .now) (s .slots .now) (t .len) (u .len) grown (a .2))
 
 -- a run list has as many whole runs as runs
 fresh-run : (p s : Bool) → not (same s p) ≡ true → begins (Some (not p)) (not s) ≡ 1

@@ -9,9 +9,8 @@ use crate::deliver::deliver;
 use crate::pieces::Pieces;
 use crate::sink::RowSink;
 use refusals::fault::SelectionFault;
+use rows::limit::ROW_LIMIT;
 use rows::selector::RowSelector;
-
-const ROW_LIMIT: usize = 1_073_741_824;
 
 // The raw runs still to come.
 #[derive(Copy)]

@@ -15,9 +15,8 @@ use crate::run_list::RunList;
 use crate::run_place::RunPlace;
 use crate::sink::RowSink;
 use refusals::fault::SelectionFault;
+use rows::limit::ROW_LIMIT;
 use rows::selector::RowSelector;
-
-const ROW_LIMIT: usize = 1_073_741_824;
 
 impl<'a> RunPlace<'a> {
     // An empty place over the runs.
