@@ -5,7 +5,7 @@ ghost use Rattle.std.specs.Of.Vec.{vec-items};
 ghost use Rattle.std.specs.Results.{Cases as ByOk};
 ghost use Rattle.rows.specs.Rows.{runRows};
 ghost use Rattle.survey.specs.Filters.{passes, picked};
-ghost use Rattle.trip.specs.Narrowed.{FoundRows, Narrowed};
+ghost use Rattle.trip.specs.Narrowed.{fetched, rangesIn, FoundRows, Narrowed};
 use algebra::and_then::and_then;
 use algebra::strategy::auto_selection_strategy;
 use bits::mask::Mask;
@@ -36,6 +36,7 @@ use tripfile::fault::FaultFromAlloc;
 use tripfile::fault::FaultFromRefused;
 use tripfile::fault::FaultFromSelection;
 use tripfile::fault::TripFault;
+use tripfile::trip::Column;
 use tripfile::trip::Trip;
 
 // What was found one way: rows kept after each filter, the runs left, the ranges of each column, and the form to read in.
@@ -92,20 +93,35 @@ fn runs_of<S: CountedSource>(
     Ok(runs)
 }
 
-// The byte ranges of each column's pages that hold a selected row.
+// The byte ranges of a column's pages that hold a selected row.
+fn column_ranges<S: CountedSource>(
+    heap: Global,
+    column: &Column,
+    source: S,
+) -> Result<Vec<ByteRange>, TripFault>
+    ensures { λ r. ⌜ ByOk r (λ v. vec-items v ≡ fetched (S·RunSource .rows source) (now (column .entry))) (λ _. Unit {0}) ⌝ }
+{
+    let mut ranges = vec![in heap; ByteRange { start: 0, end: 0 }; column.pages.len()]?;
+    match scan_ranges(source, column.pages.as_slice(), ranges.as_mut_slice()) {
+        Ok(n) => {
+            ranges.truncate(n);
+            Ok(ranges)
+        }
+        Err(fault) => Err(TripFault::Pages(column.line, fault)),
+    }
+}
+
+// The same of each column.
 fn ranges_of<S: CountedSource>(
     heap: Global,
-    trip: &Trip,
+    columns: &[Column],
     source: S,
-) -> Result<Vec<Vec<ByteRange>>, TripFault> {
+) -> Result<Vec<Vec<ByteRange>>, TripFault>
+    ensures { λ r. ⌜ ByOk r (λ v. rangesIn v ≡ map (fetched (S·RunSource .rows source)) (now (columns .entry))) (λ _. Unit {0}) ⌝ }
+{
     let mut all = Vec::new(heap);
-    for column in trip.columns.iter() {
-        let mut ranges = vec![in heap; ByteRange { start: 0, end: 0 }; column.pages.len()]?;
-        match scan_ranges(source, column.pages.as_slice(), ranges.as_mut_slice()) {
-            Ok(n) => ranges.truncate(n),
-            Err(fault) => return Err(TripFault::Pages(column.line, fault)),
-        }
-        all.push(ranges)?;
+    for column in columns {
+        all.push(column_ranges(heap, column, source)?)?;
     }
     Ok(all)
 }
@@ -117,10 +133,10 @@ fn outcome<A: CountedSource, B: CountedSource>(
     first: A,
     both: B,
 ) -> Result<Found, TripFault>
-    ensures { λ r. ⌜ ByOk r (λ f. FoundRows (now (trip .entry) .threshold) (A·RunSource .rows first) (B·RunSource .rows both) f) (λ _. Unit {0}) ⌝ }
+    ensures { λ r. ⌜ ByOk r (λ f. FoundRows (now (trip .entry)) (A·RunSource .rows first) (B·RunSource .rows both) f) (λ _. Unit {0}) ⌝ }
 {
     let runs = runs_of(heap, both, trip.shots.len())?;
-    let ranges = ranges_of(heap, trip, both)?;
+    let ranges = ranges_of(heap, trip.columns.as_slice(), both)?;
     Ok(Found {
         first: first.selected_left(),
         second: both.selected_left(),
