@@ -15,7 +15,7 @@ use Rattle.refusals.specs.Refusals.{refused, selection}
 use Rattle.rows.specs.declared.chunk.MaskChunk.{MaskChunk}
 use Rattle.rows.specs.declared.strategy.RowSelectionStrategy.the-variants.{Selectors, Mask}
 use Rattle.rows.specs.Rules.{andThen, combine, splitFront, splitRest, offset, limit, trimmed, strategy}
-use Rattle.rows.specs.Chunks.{nextChunk}
+use Rattle.rows.specs.Chunks.{nextChunk, chunkEnd}
 use Rattle.bits.specs.Bits.{maskRows}
 use Rattle.algebra.specs.Verdicts.{narrows}
 use Rattle.pages.specs.declared.page.PageLocation.{PageLocation}
@@ -45,8 +45,15 @@ abbrev pub bytes : ℕ → ℕ → ByteRange
 bytes a b = record { start = a; end = b }
 
 -- a chunk by its initial_skip, chunk_rows, selected_rows and mask_start
+abbrev pub rowsOf : ℕ → ℕ → ℕ → ℕ → MaskChunk
+rowsOf a b c d = record { «initial_skip» = a; «chunk_rows» = b; «selected_rows» = c; «mask_start» = d }
+
+-- the answer of a call that takes it, and the position that follows
 abbrev pub chunk : ℕ → ℕ → ℕ → ℕ → Result (Option MaskChunk) Refusal
-chunk a b c d = Ok (Some (record { «initial_skip» = a; «chunk_rows» = b; «selected_rows» = c; «mask_start» = d }))
+chunk a b c d = Ok (Some (rowsOf a b c d))
+
+abbrev pub past : ℕ → ℕ → ℕ → ℕ → ℕ
+past a b c d = chunkEnd (rowsOf a b c d)
 
 -- the rows that are loaded in the last but one row of the table: +5 -1 +2
 abbrev pub loaded : Option (List Bool)
@@ -64,6 +71,6 @@ pub record Worked : Type 0 where
   pub split : (splitFront 4 S ≡ minus 2 ++ plus 2) × (splitRest 4 S ≡ plus 1 ++ (minus 1 ++ plus 2))
   pub trim : trimmed (minus 4) ≡ []
   pub pages : (scanned P (minus 4 ++ plus 2) ≡ bytes 150 200 ∷ []) × (scanned P (minus 4 ++ plus 3) ≡ bytes 150 200 ∷ (bytes 200 230 ∷ [])) × (scanVerdict 1 P (minus 4 ++ plus 2) ≡ Ok 1)
-  pub chunks : (nextChunk 2 None S 0 ≡ chunk 2 2 2 2) × (nextChunk 2 None S 4 ≡ chunk 0 3 2 4) × (nextChunk 2 None S 7 ≡ chunk 0 1 1 7) × (nextChunk 2 None S 8 ≡ Ok None)
-  pub loaded-chunks : (nextChunk 2 loaded S 0 ≡ chunk 2 2 2 2) × (nextChunk 2 loaded S 4 ≡ chunk 0 1 1 4) × (nextChunk 2 loaded S 5 ≡ chunk 1 2 2 6)
+  pub chunks : (nextChunk 2 None S 0 ≡ chunk 2 2 2 2) × (nextChunk 2 None S (past 2 2 2 2) ≡ chunk 0 3 2 4) × (nextChunk 2 None S (past 0 3 2 4) ≡ chunk 0 1 1 7) × (nextChunk 2 None S (past 0 1 1 7) ≡ Ok None)
+  pub loaded-chunks : (nextChunk 2 loaded S 0 ≡ chunk 2 2 2 2) × (nextChunk 2 loaded S (past 2 2 2 2) ≡ chunk 0 1 1 4) × (nextChunk 2 loaded S (past 0 1 1 4) ≡ chunk 1 2 2 6)
   pub strategies : (strategy 2 S ≡ Selectors) × (strategy 3 S ≡ Mask)
