@@ -1,4 +1,6 @@
 // Operations on selections, over any sources and into any sink.
+#![tactic(auto)]
+
 pub mod and_then;
 pub mod combine;
 pub mod combined;

@@ -1,4 +1,6 @@
 // Bit masks: rows held one bit each, and what is read, counted and searched in them.
+#![tactic(auto)]
+
 pub mod count;
 pub mod fill;
 pub mod indices;

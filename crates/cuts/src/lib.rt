@@ -1,4 +1,6 @@
 // Selections cut short: split_off, offset, limit and trim, over any sources and into any sink.
+#![tactic(auto)]
+
 pub mod limit;
 pub mod offset;
 pub mod part;

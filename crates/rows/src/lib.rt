@@ -1,4 +1,6 @@
 // The meaning of the library: rows, runs, and the rules that every call follows.
+#![tactic(auto)]
+
 pub mod chunk;
 pub mod limit;
 pub mod range;

@@ -1,4 +1,6 @@
 // Runs: sources that hand rows out run by run, places that take them, and the way from one to the other.
+#![tactic(auto)]
+
 pub mod append;
 pub mod convert;
 pub mod deliver;

@@ -1,4 +1,6 @@
 // Answers a selection script: one line on standard output for each command on standard input.
+#![tactic(auto)]
+
 mod answer;
 mod digest;
 mod fill;

@@ -1,4 +1,6 @@
 // Selection scripts: the command that a line of text says.
+#![tactic(auto)]
+
 pub mod command;
 mod grammar;
 mod head;

@@ -1,4 +1,6 @@
 // Selections as runs or as a mask, with every operation, and the states that they go through before they are read.
+#![tactic(auto)]
+
 pub mod both;
 pub mod cuts;
 pub mod form;

@@ -1,4 +1,6 @@
 // Selections that own their memory, for programs.
+#![tactic(auto)]
+
 pub mod bytes;
 pub mod held;
 pub mod keep;

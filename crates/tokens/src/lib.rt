@@ -1,4 +1,6 @@
 // The words of a line, and the numbers and bytes that a word writes.
+#![tactic(auto)]
+
 pub mod hex;
 pub mod number;
 pub mod word;

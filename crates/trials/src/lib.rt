@@ -1,4 +1,6 @@
 // Examples and edges of every public call, run as tests; the crate has no code of its own.
+#![tactic(auto)]
+
 #[cfg(test)]
 mod bit_rows;
 #[cfg(test)]

@@ -1,4 +1,6 @@
 // Narrows one survey trip by two filters, and names the pages to fetch, in runs and in a mask.
+#![tactic(auto)]
+
 mod narrow;
 mod picture;
 mod report;

@@ -1,4 +1,6 @@
 // Trip files: what they hold, and what is wrong with one that cannot be read.
+#![tactic(auto)]
+
 pub mod fault;
 pub mod read;
 pub mod trip;

@@ -1,4 +1,6 @@
 // Masks combined, cut, joined and compared by 64-bit words.
+#![tactic(auto)]
+
 pub mod combine;
 pub mod combined;
 pub mod cut;

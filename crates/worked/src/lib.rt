@@ -1,2 +1,4 @@
 // Selections worked out by hand, proved from the rules.
+#![tactic(auto)]
+
 pub mod table;
