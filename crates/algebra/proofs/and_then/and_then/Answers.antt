@@ -16,7 +16,7 @@ returns g c =
     let k = g.K.RowSink in
     let xs = g.A.RunSource.rows c.args.first in
     let ys = g.B.RunSource.rows c.args.second in
-    let long : length ys ≡ selected_count xs = omega (arith, c.selected-left-wanted.ensures, c.rows-left-given.ensures, c.if-given-wanted.false, c.if-wanted-given.false) in
+    let long : length ys ≡ selected_count xs = omega (arith, c.selected_left-wanted.ensures, c.rows_left-given.ensures, c.if-given-wanted.false, c.if-wanted-given.false) in
     let done = c.deliver.ensures.written in
     record {
       verdict = c.deliver.ensures.verdict ∙ ap (placed k.layer k.cost (k.capacity c.args.out.now)) c.new.ensures ∙ narrows-fits k.layer k.cost (k.capacity c.args.out.now) xs ys long;

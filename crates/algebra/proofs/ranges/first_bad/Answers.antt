@@ -13,15 +13,15 @@ loop-i-preserved-then-range c =
     let xs = c.args.ranges.now in
     c.loop-i.invariant ∙ past-void c.args.total c.loop-i.end xs c.loop-i.i none (omega arith) (omega arith)
 
-pub returns-then-is-bad : goal.returns-then-is-bad
-returns-then-is-bad c =
+pub returns-then-is_bad : goal.returns-then-is_bad
+returns-then-is_bad c =
     let xs = c.args.ranges.now in
-    sym (c.loop-i.invariant ∙ at-bad c.args.total c.loop-i.end xs c.loop-i.i none (omega arith) (λ e. omega arith) (sym c.if-is-bad.ensures))
+    sym (c.loop-i.invariant ∙ at-bad c.args.total c.loop-i.end xs c.loop-i.i none (omega arith) (λ e. omega arith) (sym c.if-is_bad.ensures))
 
 pub loop-i-preserved : goal.loop-i-preserved
 loop-i-preserved c =
     let xs = c.args.ranges.now in
-    c.loop-i.invariant ∙ past-good c.args.total c.loop-i.end xs c.loop-i.i none (omega arith) (λ e. omega arith) (sym c.if-is-bad.ensures)
+    c.loop-i.invariant ∙ past-good c.args.total c.loop-i.end xs c.loop-i.i none (omega arith) (λ e. omega arith) (sym c.if-is_bad.ensures)
 
 pub returns : goal.returns
 returns c =

@@ -10,13 +10,13 @@ loop-i-init c =
     let a = c.args.offset in
     sym (selected-none (row_at c.args.bytes.now) a (min (8 * (a / 8)) (a + c.args.len) - a) (omega arith))
 
-pub overflow-add-n : goal.overflow-add-n
-overflow-add-n c =
+pub overflow_add-n : goal.overflow_add-n
+overflow_add-n c =
     let a = c.args.offset in
     omega (
       arith,
       c.loop-i.invariant,
-      c.ones-between-n.ensures,
+      c.ones_between-n.ensures,
       selected-rows-le (row_at c.args.bytes.now) a (min (8 * c.loop-i.i) (a + c.args.len) - a),
       selected-rows-le (bit_at (get_or c.args.bytes.now c.loop-i.i 0)) c.if-i-offset.from (c.if-end-i.to - c.if-i-offset.from),
     )
@@ -26,7 +26,7 @@ loop-i-preserved c =
     omega (
       arith,
       c.loop-i.invariant,
-      c.ones-between-n.ensures,
+      c.ones_between-n.ensures,
       count-byte c.args.bytes.now c.args.offset (c.args.offset + c.args.len) c.loop-i.i c.if-i-offset.from c.if-end-i.to
           (omega arith) (omega arith) (omega arith) (omega arith) (omega arith),
     )

@@ -8,8 +8,8 @@ below b s m h l =
     subst (λ (x : ℕ). x < 2 ^ (s + m)) (sym (filled_is b s m l))
     (subst (λ (x : ℕ). (2 ^ m - 1) * 2 ^ s + b < 2 ^ x) (add_comm m s) (filled-lt b s m h))
 
-pub overflow-cast-result-then-set : goal.overflow-cast-result-then-set
-overflow-cast-result-then-set c =
+pub overflow_cast-result-then-set : goal.overflow_cast-result-then-set
+overflow_cast-result-then-set c =
     let p : 2 ^ (c.args.s + c.args.m) ≤ 2 ^ 8 = pow_mono c.requires.1 in
     omega (arith, below c.args.b c.args.s c.args.m c.requires.0 c.requires.1)
 

@@ -13,10 +13,10 @@ loop-passed-init c =
     ap₂ (λ (x y : ℕ). nth_end c.args.n (mask_rows c.args.bytes.now x y)) (let d : c.args.offset ≡ c.args.offset + 0 = omega arith in d) (let d : c.args.len ≡ c.args.len - 0 = omega arith in d) in
     (omega arith, omega arith, omega arith)
 
-pub overflow-add-result : goal.overflow-add-result
-overflow-add-result c =
-    let w = c.rows-word-w.result in
-    omega (arith, c.nth-in-word.ensures, nth-le c.loop-passed.left (word_rows w 64), length-rows (bit_at w) 0 64)
+pub overflow_add-result : goal.overflow_add-result
+overflow_add-result c =
+    let w = c.rows_word-w.result in
+    omega (arith, c.nth_in_word.ensures, nth-le c.loop-passed.left (word_rows w 64), length-rows (bit_at w) 0 64)
 
 -- a word of the n rows from q on, with the left-th selected row of r rows in it, or with too few of them
 module _ (bytes : List ℕ) (q r left w n ones : ℕ) (low : w < 2 ^ n) (few : n ≤ 64) (in_rows : n ≤ r)
@@ -38,16 +38,16 @@ returns-then-left-ones c =
     omega (
       arith,
       c.loop-passed.invariant.2,
-      c.nth-in-word.ensures,
-      here c.args.bytes.now (c.args.offset + p) (c.args.len - p) c.loop-passed.left c.rows-word-w.result c.min-size.result c.word-ones-ones.result
-          c.rows-word-w.ensures.small (omega arith) (omega arith) c.rows-word-w.ensures.rows c.word-ones-ones.ensures (omega arith),
+      c.nth_in_word.ensures,
+      here c.args.bytes.now (c.args.offset + p) (c.args.len - p) c.loop-passed.left c.rows_word-w.result c.min-size.result c.word_ones-ones.result
+          c.rows_word-w.ensures.small (omega arith) (omega arith) c.rows_word-w.ensures.rows c.word_ones-ones.ensures (omega arith),
     )
 
 pub loop-passed-preserved : goal.loop-passed-preserved
 loop-passed-preserved c =
     let p = c.loop-passed.passed in
     let n = c.min-size.result in
-    let left = c.loop-passed.left - c.word-ones-ones.result in
+    let left = c.loop-passed.left - c.word_ones-ones.result in
     let q = c.args.offset + (p + n) in
     let e : nth_end left (mask_rows c.args.bytes.now q (c.args.len - p - n)) ≡ nth_end left (mask_rows c.args.bytes.now q (c.args.len - (p + n))) =
     ap (λ (x : ℕ). nth_end left (mask_rows c.args.bytes.now q x)) (let d : c.args.len - p - n ≡ c.args.len - (p + n) = omega arith in d) in (
@@ -56,8 +56,8 @@ loop-passed-preserved c =
       omega (
         arith,
         c.loop-passed.invariant.2,
-        later c.args.bytes.now (c.args.offset + p) (c.args.len - p) c.loop-passed.left c.rows-word-w.result n c.word-ones-ones.result
-            c.rows-word-w.ensures.small (omega arith) (omega arith) c.rows-word-w.ensures.rows c.word-ones-ones.ensures q (omega arith) (omega arith),
+        later c.args.bytes.now (c.args.offset + p) (c.args.len - p) c.loop-passed.left c.rows_word-w.result n c.word_ones-ones.result
+            c.rows_word-w.ensures.small (omega arith) (omega arith) c.rows_word-w.ensures.rows c.word_ones-ones.ensures q (omega arith) (omega arith),
       ),
     )
 

@@ -13,9 +13,9 @@ loop-size-preserved-then-ones-left c =
     let size = c.loop-size.size in
     let half = size / 2 in
     let left = c.loop-size.left in
-    let ones = c.word-ones-ones.result in
+    let ones = c.word_ones-ones.result in
     let low : selected_count (word_rows w half) ≡ ones =
-    sym (c.word-ones-ones.ensures ∙ low_count w c.low-bits.result half (omega arith) c.low-bits.ensures.small c.low-bits.ensures.rows) in
+    sym (c.word_ones-ones.ensures ∙ low_count w c.low_bits.result half (omega arith) c.low_bits.ensures.small c.low_bits.ensures.rows) in
     let high = high-rows w half (size - half) in (
       omega arith,
       omega (arith, c.loop-size.invariant.1, selected-more (bit_at w) 0 half (size - half) half size (omega arith) (omega arith), ap selected_count high),
@@ -27,7 +27,7 @@ pub loop-size-preserved : goal.loop-size-preserved
 loop-size-preserved c =
     let w = c.loop-size.w in
     let half = c.loop-size.size / 2 in
-    let low = c.word-ones-ones.ensures ∙ low_count w c.low-bits.result half (omega arith) c.low-bits.ensures.small c.low-bits.ensures.rows in (
+    let low = c.word_ones-ones.ensures ∙ low_count w c.low_bits.result half (omega arith) c.low_bits.ensures.small c.low_bits.ensures.rows in (
       omega arith,
       omega arith,
       omega arith,

@@ -8,12 +8,12 @@ pub returns-then-n-lt64 : goal.returns-then-n-lt64
 returns-then-n-lt64 c =
     let f = row_at c.args.bytes.now in
     let q = c.loop-q.q in
-    let n = c.same-bits-n.result in
-    let at : (k : ℕ) → k < 64 → f (q + k) ≡ _ = λ k h. row_word c.args.bytes.now q c.word-at.result 64 k c.word-at.ensures h in
+    let n = c.same_bits-n.result in
+    let at : (k : ℕ) → k < 64 → f (q + k) ≡ _ = λ k h. row_word c.args.bytes.now q c.word_at.result 64 k c.word_at.ensures h in
     record {
       within = omega arith;
-      alike = λ k l h. run_more f c.args.set c.args.p q n c.loop-q.invariant.1 (λ j i. at j (omega arith) ∙ c.same-bits-n.ensures.alike j i) k l (omega arith);
-      stops = λ h. ap f (let e : c.min.result ≡ q + n = omega arith in e) ∙ at n (omega arith) ∙ c.same-bits-n.ensures.stops (omega arith);
+      alike = λ k l h. run_more f c.args.set c.args.p q n c.loop-q.invariant.1 (λ j i. at j (omega arith) ∙ c.same_bits-n.ensures.alike j i) k l (omega arith);
+      stops = λ h. ap f (let e : c.min.result ≡ q + n = omega arith in e) ∙ at n (omega arith) ∙ c.same_bits-n.ensures.stops (omega arith);
     }
 
 pub loop-q-preserved : goal.loop-q-preserved
@@ -21,7 +21,7 @@ loop-q-preserved c =
     let q = c.loop-q.q in (
       omega arith,
       run_more (row_at c.args.bytes.now) c.args.set c.args.p q 64 c.loop-q.invariant.1
-          (λ j i. row_word c.args.bytes.now q c.word-at.result 64 j c.word-at.ensures i ∙ c.same-bits-n.ensures.alike j (omega arith)),
+          (λ j i. row_word c.args.bytes.now q c.word_at.result 64 j c.word_at.ensures i ∙ c.same_bits-n.ensures.alike j (omega arith)),
     )
 
 pub returns : goal.returns

@@ -20,21 +20,21 @@ returns-then-used-gt0 c =
     let a = c.args.offset in
     let left = c.loop-left.left in
     let n = c.min-n.result in
-    let w = c.rows-word.result in
-    let used = c.bits-used-used.result in
-    let at = λ (k : ℕ). row_word c.args.bytes.now (a + left - n) w n k c.rows-word.ensures.rows in
-    let small : used ≤ n = used-within w n used c.rows-word.ensures.small c.bits-used-used.ensures.last in
+    let w = c.rows_word.result in
+    let used = c.bits_used-used.result in
+    let at = λ (k : ℕ). row_word c.args.bytes.now (a + left - n) w n k c.rows_word.ensures.rows in
+    let small : used ≤ n = used-within w n used c.rows_word.ensures.small c.bits_used-used.ensures.last in
     sym (trimmed-is f a c.args.len (left - n + used) (omega arith)
-    (λ h. ap f (let e : a + (left - n + used - 1) ≡ a + left - n + (used - 1) = omega arith in e) ∙ at (used - 1) (omega arith) ∙ c.bits-used-used.ensures.last (omega arith))
-    (λ k h l. cleared f w (a + left - n) n used (a + c.args.len) at c.bits-used-used.ensures.rest (λ j i t. c.loop-left.invariant.1 j (omega arith) t) k (omega arith) l))
+    (λ h. ap f (let e : a + (left - n + used - 1) ≡ a + left - n + (used - 1) = omega arith in e) ∙ at (used - 1) (omega arith) ∙ c.bits_used-used.ensures.last (omega arith))
+    (λ k h l. cleared f w (a + left - n) n used (a + c.args.len) at c.bits_used-used.ensures.rest (λ j i t. c.loop-left.invariant.1 j (omega arith) t) k (omega arith) l))
 
 pub loop-left-preserved : goal.loop-left-preserved
 loop-left-preserved c =
     let q = c.args.offset + c.loop-left.left - c.min-n.result in (
       omega arith,
-      λ k h l. cleared (row_at c.args.bytes.now) c.rows-word.result q c.min-n.result c.bits-used-used.result (c.args.offset + c.args.len)
-          (λ j. row_word c.args.bytes.now q c.rows-word.result c.min-n.result j c.rows-word.ensures.rows)
-          c.bits-used-used.ensures.rest (λ j i t. c.loop-left.invariant.1 j (omega arith) t) k (omega arith) l,
+      λ k h l. cleared (row_at c.args.bytes.now) c.rows_word.result q c.min-n.result c.bits_used-used.result (c.args.offset + c.args.len)
+          (λ j. row_word c.args.bytes.now q c.rows_word.result c.min-n.result j c.rows_word.ensures.rows)
+          c.bits_used-used.ensures.rest (λ j i t. c.loop-left.invariant.1 j (omega arith) t) k (omega arith) l,
     )
 
 pub returns : goal.returns

@@ -4,11 +4,11 @@ use lib.Count.{count_trailing_zeros, trailing_le}
 use Rattle.bits.proofs.Digits.{tz-below, tz-at, bit-turn, bit-clear, bit-set}
 use Rattle.bits.proofs.word.same_bits.Goals as goal
 
-pub overflow-cast-result : goal.overflow-cast-result
-overflow-cast-result c = omega (arith, trailing_le 64 (bit_xor c.args.w (2 ^ 64 - 1)))
+pub overflow_cast-result : goal.overflow_cast-result
+overflow_cast-result c = omega (arith, trailing_le 64 (bit_xor c.args.w (2 ^ 64 - 1)))
 
-pub overflow-cast-result-else-set : goal.overflow-cast-result-else-set
-overflow-cast-result-else-set c = omega (arith, trailing_le 64 c.args.w)
+pub overflow_cast-result-else-set : goal.overflow_cast-result-else-set
+overflow_cast-result-else-set c = omega (arith, trailing_le 64 c.args.w)
 
 pub returns-then-set : goal.returns-then-set
 returns-then-set c =

@@ -3,8 +3,8 @@ use lib.Count.{ones-le}
 use Rattle.bits.proofs.Words.{ones-selected}
 use Rattle.bits.proofs.word.word_ones.Goals as goal
 
-pub overflow-cast-result : goal.overflow-cast-result
-overflow-cast-result c = omega (arith, ones-le 64 c.args.w (omega arith))
+pub overflow_cast-result : goal.overflow_cast-result
+overflow_cast-result c = omega (arith, ones-le 64 c.args.w (omega arith))
 
 pub returns : goal.returns
 returns c = ones-selected 64 c.args.w (omega arith)

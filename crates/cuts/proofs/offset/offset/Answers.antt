@@ -25,12 +25,12 @@ returns-then-n-eq0 g c =
       rest = c.convert.ensures.rest;
     }
 
-pub returns-then-selected-left-n : goal.returns-then-selected-left-n
-returns-then-selected-left-n g c =
+pub returns-then-selected_left-n : goal.returns-then-selected_left-n
+returns-then-selected_left-n g c =
     let k = g.K.RowSink in
     let n = c.args.n in
     let xs = g.S.RunSource.rows c.args.source in
-    let rows = c.new.ensures ∙ sym (offset-none n xs (omega arith) (omega (arith, c.selected-left.ensures, c.if-selected-left-n.true))) in
+    let rows = c.new.ensures ∙ sym (offset-none n xs (omega arith) (omega (arith, c.selected_left.ensures, c.if-selected_left-n.true))) in
     let done = c.deliver.ensures.written in
     record {
       verdict = c.deliver.ensures.verdict ∙ ap (placed k.layer k.cost (k.capacity c.args.out.now)) rows;
@@ -44,7 +44,7 @@ returns g c =
     let k = g.K.RowSink in
     let n = c.args.n in
     let xs = g.S.RunSource.rows c.args.source in
-    let rows = c.new-2.ensures ∙ sym (offset-some n xs (omega (arith, c.selected-left.ensures, c.if-selected-left-n.false))) in
+    let rows = c.new-2.ensures ∙ sym (offset-some n xs (omega (arith, c.selected_left.ensures, c.if-selected_left-n.false))) in
     let done = c.deliver-2.ensures.written in
     record {
       verdict = c.deliver-2.ensures.verdict ∙ ap (placed k.layer k.cost (k.capacity c.args.out.now)) rows;

@@ -5,16 +5,16 @@ use Rattle.cuts.proofs.part.count_selected.Given as given
 use Rattle.cuts.proofs.part.count_selected.Goals as goal
 use Rattle.cuts.proofs.part.count_selected.Goals.{In-Some}
 
-fewer : (g : given.Over) (c : In-Some g) → selected_count (g.S.RunSource.rows c.loop-run.rest) ≡ cond c.in-Some.run'.skip 0 c.in-Some.run'.row_count + selected_count (g.S.RunSource.rows c.next-run.new.self)
-fewer g c = piece-selected _ (g.S.RunSource.rows c.next-run.new.self) c.in-Some.run'.row_count c.in-Some.run'.skip c.in-Some.ensures.1
+fewer : (g : given.Over) (c : In-Some g) → selected_count (g.S.RunSource.rows c.loop-run.rest) ≡ cond c.in-Some.run'.skip 0 c.in-Some.run'.row_count + selected_count (g.S.RunSource.rows c.next_run.new.self)
+fewer g c = piece-selected _ (g.S.RunSource.rows c.next_run.new.self) c.in-Some.run'.row_count c.in-Some.run'.skip c.in-Some.ensures.1
 
-pub overflow-add-n : goal.overflow-add-n
-overflow-add-n g c =
+pub overflow_add-n : goal.overflow_add-n
+overflow_add-n g c =
     let xs = g.S.RunSource.rows c.args.source in
-    omega (arith, fewer g (goal.at.overflow-add-n g c).In-Some, c.selected-n.ensures, c.loop-run.invariant, selected-le xs, g.S.RunSource.within c.args.source)
+    omega (arith, fewer g (goal.at.overflow_add-n g c).In-Some, c.selected-n.ensures, c.loop-run.invariant, selected-le xs, g.S.RunSource.within c.args.source)
 
 pub loop-run-smaller : goal.loop-run-smaller
-loop-run-smaller g c = omega (arith, piece-length _ (g.S.RunSource.rows c.next-run.new.self) c.in-Some.run'.row_count (not c.in-Some.run'.skip) c.in-Some.ensures.1, c.in-Some.ensures.0)
+loop-run-smaller g c = omega (arith, piece-length _ (g.S.RunSource.rows c.next_run.new.self) c.in-Some.run'.row_count (not c.in-Some.run'.skip) c.in-Some.ensures.1, c.in-Some.ensures.0)
 
 pub loop-run-preserved : goal.loop-run-preserved
 loop-run-preserved g c = omega (arith, fewer g (goal.at.loop-run-preserved g c).In-Some, c.selected-n.ensures, c.loop-run.invariant)

@@ -9,14 +9,14 @@ use Rattle.cuts.proofs.run_offset.find_split.Goals as goal
 abbrev none : RowSelector
 none = record { row_count = 0; skip = false }
 
-pub overflow-add-skipped : goal.overflow-add-skipped
-overflow-add-skipped c =
+pub overflow_add-skipped : goal.overflow_add-skipped
+overflow_add-skipped c =
     let s = c.args.list in
     let same = ap (λ r. length (run_rows r)) c.runs-runs.ensures.0 in
     omega (arith, c.loop-run.invariant.1, step-length c.runs-runs.result.now c.loop-run.run none c.loop-run-test.true, same, s.counted, s.within)
 
-pub overflow-add-selected : goal.overflow-add-selected
-overflow-add-selected c =
+pub overflow_add-selected : goal.overflow_add-selected
+overflow_add-selected c =
     let s = c.args.list in
     let same = ap (λ r. length (run_rows r)) c.runs-runs.ensures.0 in
     omega (arith, c.loop-run.invariant.1, step-length c.runs-runs.result.now c.loop-run.run none c.loop-run-test.true, same, s.counted, s.within)

@@ -34,10 +34,10 @@ returns-then-n-eq0 g c =
       rest = c.convert.ensures.rest;
     }
 
-pub returns-in-default : goal.returns-in-default
-returns-in-default g c =
+pub returns-in_default : goal.returns-in_default
+returns-in_default g c =
     let k = g.K.RowSink in
-    let rows = ap run_rows c.new.ensures ∙ sym (offset-none c.args.n (run_rows c.args.list.runs.now) (omega arith) c.in-default.ensures) in
+    let rows = ap run_rows c.new.ensures ∙ sym (offset-none c.args.n (run_rows c.args.list.runs.now) (omega arith) c.in_default.ensures) in
     record {
       verdict = c.deliver.ensures.verdict ∙ ap (placed k.layer k.cost (k.capacity c.args.out.now)) rows;
       written = MatchResult-weaker c.deliver.result c.deliver.ensures.written (λ _ e. e ∙ rows) (λ _ e. e);

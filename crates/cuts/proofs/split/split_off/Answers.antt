@@ -21,27 +21,27 @@ fits-requires-2 g c =
 pub write-requires : goal.write-requires
 write-requires g c =
     let xs = g.S.RunSource.rows c.args.source in
-    (omega (arith, ap length c.new-first.ensures, length-take c.args.n xs, g.S.RunSource.within c.args.source), admits g.K.RowSink.layer _ _ c.in-ok-fits.ensures)
+    (omega (arith, ap length c.new-first.ensures, length-take c.args.n xs, g.S.RunSource.within c.args.source), admits g.K.RowSink.layer _ _ c.in_ok-fits.ensures)
 
 pub write-requires-2 : goal.write-requires-2
 write-requires-2 g c =
     let xs = g.S.RunSource.rows c.args.source in
-    (omega (arith, ap length c.new-second.ensures, length-drop c.args.n xs, g.S.RunSource.within c.args.source), admits g.L.RowSink.layer _ _ c.in-ok-fits-2.ensures)
+    (omega (arith, ap length c.new-second.ensures, length-drop c.args.n xs, g.S.RunSource.within c.args.source), admits g.L.RowSink.layer _ _ c.in_ok-fits-2.ensures)
 
-pub returns-in-err-fits : goal.returns-in-err-fits
-returns-in-err-fits g c =
+pub returns-in_err-fits : goal.returns-in_err-fits
+returns-in_err-fits g c =
     let k = g.K.RowSink in
     let p = err_from_is_err_and c.from-residual.result c.from-residual.ensures.1 in
-    let one = c.in-err-fits.ensures ∙ ap (placed k.layer k.cost (k.capacity c.args.front.now)) c.new-first.ensures in
-    rw (p.1, p.2) (record { verdict = first-told c.in-err-fits.field-0.0 _ _ one; front = refl; rest = refl; split = tt; beyond = (k.still _, g.L.RowSink.still _) })
+    let one = c.in_err-fits.ensures ∙ ap (placed k.layer k.cost (k.capacity c.args.front.now)) c.new-first.ensures in
+    rw (p.1, p.2) (record { verdict = first-told c.in_err-fits.field-0.0 _ _ one; front = refl; rest = refl; split = tt; beyond = (k.still _, g.L.RowSink.still _) })
 
-pub returns-in-err-fits-2 : goal.returns-in-err-fits-2
-returns-in-err-fits-2 g c =
+pub returns-in_err-fits-2 : goal.returns-in_err-fits-2
+returns-in_err-fits-2 g c =
     let k = g.K.RowSink in
     let l = g.L.RowSink in
-    let p = err_from_is_err_and c.from-residual-in-err-fits-2.result c.from-residual-in-err-fits-2.ensures.1 in
-    let one = c.in-ok-fits.ensures ∙ ap (placed k.layer k.cost (k.capacity c.args.front.now)) c.new-first.ensures in
-    let two = c.in-err-fits-2.ensures ∙ ap (placed l.layer l.cost (l.capacity c.args.rest.now)) c.new-second.ensures in
+    let p = err_from_is_err_and c.from-residual-in_err-fits-2.result c.from-residual-in_err-fits-2.ensures.1 in
+    let one = c.in_ok-fits.ensures ∙ ap (placed k.layer k.cost (k.capacity c.args.front.now)) c.new-first.ensures in
+    let two = c.in_err-fits-2.ensures ∙ ap (placed l.layer l.cost (l.capacity c.args.rest.now)) c.new-second.ensures in
     rw (p.1, p.2) (record { verdict = second-told _ _ _ one two; front = refl; rest = refl; split = tt; beyond = (k.still _, l.still _) })
 
 pub returns : goal.returns
@@ -50,8 +50,8 @@ returns g c =
     let l = g.L.RowSink in
     let n = c.args.n in
     let xs = g.S.RunSource.rows c.args.source in
-    let one = c.in-ok-fits.ensures ∙ ap (placed k.layer k.cost (k.capacity c.args.front.now)) c.new-first.ensures in
-    let two = c.in-ok-fits-2.ensures ∙ ap (placed l.layer l.cost (l.capacity c.args.rest.now)) c.new-second.ensures in
+    let one = c.in_ok-fits.ensures ∙ ap (placed k.layer k.cost (k.capacity c.args.front.now)) c.new-first.ensures in
+    let two = c.in_ok-fits-2.ensures ∙ ap (placed l.layer l.cost (l.capacity c.args.rest.now)) c.new-second.ensures in
     let front = c.write.ensures.rows ∙ c.new-first.ensures in
     let rest = c.write-2.ensures.rows ∙ c.new-second.ensures in
     record {

@@ -11,14 +11,14 @@ use Rattle.cuts.proofs.trim.trim.Goals as goal
 pub deliver-requires : goal.deliver-requires
 deliver-requires g c =
     let xs = g.S.RunSource.rows c.args.source in
-    let rows = c.new.ensures ∙ ap (λ k. limit k xs) c.selected-left.ensures ∙ trimmed-limit xs in
+    let rows = c.new.ensures ∙ ap (λ k. limit k xs) c.selected_left.ensures ∙ trimmed-limit xs in
     omega (arith, ap length rows, ap length (trimmed-front xs), length-take (length (trimmed xs)) xs, g.S.RunSource.within c.args.source)
 
 pub returns : goal.returns
 returns g c =
     let k = g.K.RowSink in
     let xs = g.S.RunSource.rows c.args.source in
-    let rows = c.new.ensures ∙ ap (λ k. limit k xs) c.selected-left.ensures ∙ trimmed-limit xs in
+    let rows = c.new.ensures ∙ ap (λ k. limit k xs) c.selected_left.ensures ∙ trimmed-limit xs in
     let done = c.deliver.ensures.written in
     record {
       verdict = c.deliver.ensures.verdict ∙ ap (placed k.layer k.cost (k.capacity c.args.out.now)) rows;

@@ -3,9 +3,9 @@ use Rattle.tokens.specs.Left.{left}
 use Rattle.scripts.proofs.Heads.{arg-read, arg-refused, all-args}
 use Rattle.scripts.proofs.head.head.Goals as goal
 
-pub returns-in-default : goal.returns-in-default
-returns-in-default c =
-    arg-refused (vec_items c.loop-kind.args) c.args.kinds.now c.loop-kind.kind-index (left c.loop-kind.words) _ c.loop-kind.invariant _ c.loop-kind-test.true c.in-default.ensures
+pub returns-in_default : goal.returns-in_default
+returns-in_default c =
+    arg-refused (vec_items c.loop-kind.args) c.args.kinds.now c.loop-kind.kind-index (left c.loop-kind.words) _ c.loop-kind.invariant _ c.loop-kind-test.true c.in_default.ensures
 
 pub loop-kind-preserved : goal.loop-kind-preserved
 loop-kind-preserved c =
@@ -21,7 +21,7 @@ loop-kind-preserved c =
     c.in-Some.arg
     (left c.arg.new.words)
     c.loop-kind-test.true
-    c.in-ok-push.ensures.items
+    c.in_ok-push.ensures.items
     c.in-Some.ensures
 
 pub returns : goal.returns

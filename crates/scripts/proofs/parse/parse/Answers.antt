@@ -12,5 +12,5 @@ spoken (b ∷ bs) h n = ap (λ t. cond t silent (command_of (words_of (b ∷ bs)
 pub returns : goal.returns
 returns c =
     let line = c.args.line.now in
-    let some : 0 < length line = omega (arith, false-eqb _ 0 c.if-is-empty.ensures) in
+    let some : 0 < length line = omega (arith, false-eqb _ 0 c.if-is_empty.ensures) in
     IfOk-weaker c.command.result _ _ (λ l e. e ∙ ap command_of c.new.ensures ∙ sym (spoken line some c.if-line-eq-REMARK.false)) c.command.ensures

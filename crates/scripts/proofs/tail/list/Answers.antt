@@ -18,5 +18,5 @@ loop-first-preserved g c =
     (vec_items c.push.new.self)
     c.in-Some-read.item
     _
-    c.in-ok-push.ensures.items
+    c.in_ok-push.ensures.items
     (read g.T-as-Item.listed (left c.loop-first.words) (left c.next.new.self) (left c.read.new.words) c.in-Some.first.now (Some c.in-Some-read.item) c.in-Some.ensures c.in-Some-read.ensures.item)

@@ -17,7 +17,7 @@ loop-shot-preserved c =
     let i = c.loop-shot.shot-index in
     let p = passes c.args.filter in
     let front = take i xs in
-    ap run_rows c.in-ok-push.ensures.items
+    ap run_rows c.in_ok-push.ensures.items
     ∙ run_rows-push (vec_items c.loop-shot.runs) (record { row_count = 1; skip = not c.keeps.result })
     ∙ ap (λ l. l ++ (not (not c.keeps.result) ∷ [])) c.loop-shot.invariant
     ∙ ap (λ b. map p front ++ (b ∷ [])) (not-not c.keeps.result ∙ c.keeps.ensures)

@@ -22,9 +22,9 @@ odd w i h l =
 told : (w : List ℕ) (i : ℕ) (o : Option ℕ) → 2 ≤ length w - i → o ≡ hex_byte (get_or w i 0) (get_or w (i + 1) 0) → hex_bytes (drop i w) ≡ added o (hex_bytes (drop (i + 2) w))
 told w i o h e = pair w i h ∙ ap (λ b. added b (hex_bytes (drop (i + 2) w))) (sym e)
 
-pub returns-in-default : goal.returns-in-default
-returns-in-default c =
-    refused (vec_items c.loop-i.found) _ _ c.loop-i.invariant.1 (told c.args.word.now c.loop-i.i None c.loop-i-test.true c.in-default.ensures)
+pub returns-in_default : goal.returns-in_default
+returns-in_default c =
+    refused (vec_items c.loop-i.found) _ _ c.loop-i.invariant.1 (told c.args.word.now c.loop-i.i None c.loop-i-test.true c.in_default.ensures)
 
 pub loop-i-preserved : goal.loop-i-preserved
 loop-i-preserved c = (
@@ -37,7 +37,7 @@ loop-i-preserved c = (
       (vec_items c.push.new.self)
       c.in-Some.b
       _
-      c.in-ok-push.ensures.items
+      c.in_ok-push.ensures.items
       (told c.args.word.now c.loop-i.i (Some c.in-Some.b) c.loop-i-test.true c.in-Some.ensures),
 )
 

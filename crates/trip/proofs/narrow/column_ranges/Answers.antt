@@ -14,7 +14,7 @@ front m xs ys e =
 pub returns-in-Ok : goal.returns-in-Ok
 returns-in-Ok g c =
     let n = c.in-Ok.n in
-    let place = c.scan-ranges.new.place in
-    let long : length place ≡ c.in-ok-ranges.ranges.len = omega (arith, c.scan-ranges.auto.place, c.as-mut-slice.ensures.len) in
-    c.truncate.ensures.items ∙ ap (take n) (front c.in-ok-ranges.ranges.len place _ long) ∙ c.in-Ok.ensures.written.0
-    ∙ ap (λ ps. scanned ps (g.S.RunSource.rows c.args.source)) c.as-slice.ensures.value
+    let place = c.scan_ranges.new.place in
+    let long : length place ≡ c.in_ok-ranges.ranges.len = omega (arith, c.scan_ranges.auto.place, c.as_mut_slice.ensures.len) in
+    c.truncate.ensures.items ∙ ap (take n) (front c.in_ok-ranges.ranges.len place _ long) ∙ c.in-Ok.ensures.written.0
+    ∙ ap (λ ps. scanned ps (g.S.RunSource.rows c.args.source)) c.as_slice.ensures.value

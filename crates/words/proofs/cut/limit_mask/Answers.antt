@@ -6,4 +6,4 @@ use Rattle.words.proofs.cut.limit_mask.Goals as goal
 pub returns : goal.returns
 returns c =
     let xs = rows c.args.mask in
-    c.slice.ensures ∙ ap (λ k. take k xs) c.find-nth-set-bit-position.ensures ∙ sym (limited c.args.n xs).front
+    c.slice.ensures ∙ ap (λ k. take k xs) c.find_nth_set_bit_position.ensures ∙ sym (limited c.args.n xs).front

@@ -7,8 +7,8 @@ use Rattle.words.specs.Shown.{few-rows}
 use Rattle.words.proofs.CutLaws.{last_some, last_none, trimmed-le}
 use Rattle.words.proofs.cut.trim_mask.Goals as goal
 
-pub overflow-add-last : goal.overflow-add-last
-overflow-add-last c =
+pub overflow_add-last : goal.overflow_add-last
+overflow_add-last c =
     let xs = rows c.args.mask in
     omega (arith, last_some xs c.in-Some.last c.in-Some.ensures, trimmed-le xs, few-rows c.args.mask)
 

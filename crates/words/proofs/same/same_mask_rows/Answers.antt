@@ -5,10 +5,10 @@ use Rattle.words.proofs.SameLaws.{agree-more, agree-all, words-differ}
 use Rattle.words.proofs.same.same_mask_rows.Goals as goal
 
 pub returns-then-word : goal.returns-then-word
-returns-then-word c = words-differ (rows c.args.a) (rows c.args.b) c.loop-at.at c.word.result c.word-in-loop-at.result c.word.ensures c.word-in-loop-at.ensures c.word.type-inv c.word-in-loop-at.type-inv c.if-word.true
+returns-then-word c = words-differ (rows c.args.a) (rows c.args.b) c.loop-at.at c.word.result c.word-in-loop-at.result c.word.ensures c.word-in-loop-at.ensures c.word.type_inv c.word-in-loop-at.type_inv c.if-word.true
 
-pub overflow-add-at : goal.overflow-add-at
-overflow-add-at c = omega (arith, c.len-n.ensures, few-rows c.args.a)
+pub overflow_add-at : goal.overflow_add-at
+overflow_add-at c = omega (arith, c.len-n.ensures, few-rows c.args.a)
 
 pub loop-at-preserved : goal.loop-at-preserved
 loop-at-preserved c =

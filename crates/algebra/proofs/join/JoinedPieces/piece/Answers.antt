@@ -6,4 +6,4 @@ pub returns-in-Some : goal.returns-in-Some
 returns-in-Some g c =
     let others = g.B.RunSource.rows c.args.self.now.second in
     let step = c.in-Some.ensures in
-    (step.0, ap (λ l. l ++ others) step.1 ∙ append_assoc (run_of c.in-Some.run') (g.A.RunSource.rows c.next-run.new.self) others)
+    (step.0, ap (λ l. l ++ others) step.1 ∙ append_assoc (run_of c.in-Some.run') (g.A.RunSource.rows c.next_run.new.self) others)

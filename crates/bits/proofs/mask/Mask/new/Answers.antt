@@ -6,10 +6,10 @@ use Rattle.bits.proofs.RowLaws.{rows-nil}
 use Rattle.bits.proofs.Words.{bytes_drop}
 use Rattle.bits.proofs.mask.Mask.new.Goals as goal
 
-pub returns-then-is-err : goal.returns-then-is-err
-returns-then-is-err c = record {
+pub returns-then-is_err : goal.returns-then-is_err
+returns-then-is_err c = record {
   verdict = c.check-checked.ensures;
-  rows = rows-nil (row_at c.args.bytes.now) 0 0 (omega arith) ∙ sym (cond-false _ _ _ (c.is-err.ensures.negation ∙ not_from_true _ c.if-is-err.true));
+  rows = rows-nil (row_at c.args.bytes.now) 0 0 (omega arith) ∙ sym (cond-false _ _ _ (c.is_err.ensures.negation ∙ not_from_true _ c.if-is_err.true));
 }
 
 pub returns : goal.returns
@@ -20,5 +20,5 @@ returns c =
       rows =
           ap (λ (s : List ℕ). mask_rows s (o % 8) c.args.len) (take_rest c.args.bytes.now (o / 8))
           ∙ bytes_drop c.args.bytes.now (o / 8) (o % 8) o c.args.len (omega arith)
-          ∙ sym (cond-true _ _ _ (c.is-err.ensures.negation ∙ not_from_false _ c.if-is-err.false));
+          ∙ sym (cond-true _ _ _ (c.is_err.ensures.negation ∙ not_from_false _ c.if-is_err.false));
     }

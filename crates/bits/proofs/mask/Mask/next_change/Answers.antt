@@ -25,6 +25,6 @@ returns-then-at-self c = let m = c.args.self.now in sym (past (row_at m.bytes.no
 pub returns : goal.returns
 returns c =
     let m = c.args.self.now in
-    let found = c.stretch-end.ensures in
-    sym (inside (row_at m.bytes.now) m.offset m.len c.args.at c.stretch-end.result (omega arith) (omega arith) (omega arith)
-    (λ k g t. found.alike k g t ∙ c.bit-at-set.ensures) (λ t. found.stops t ∙ ap not c.bit-at-set.ensures))
+    let found = c.stretch_end.ensures in
+    sym (inside (row_at m.bytes.now) m.offset m.len c.args.at c.stretch_end.result (omega arith) (omega arith) (omega arith)
+    (λ k g t. found.alike k g t ∙ c.bit_at-set.ensures) (λ t. found.stops t ∙ ap not c.bit_at-set.ensures))

@@ -15,7 +15,7 @@ hasnt f a n i h = cond-false _ _ _ (ap (ltb i) (length-rows f a n) ∙ le-ltb i 
 pub returns-then-i-self : goal.returns-then-i-self
 returns-then-i-self c =
     let m = c.args.self.now in
-    ap Some c.bit-at.ensures ∙ sym (has (row_at m.bytes.now) m.offset m.len c.args.i (omega arith))
+    ap Some c.bit_at.ensures ∙ sym (has (row_at m.bytes.now) m.offset m.len c.args.i (omega arith))
 
 pub returns : goal.returns
 returns c = let m = c.args.self.now in sym (hasnt (row_at m.bytes.now) m.offset m.len c.args.i (omega arith))

@@ -8,13 +8,13 @@ pub returns-then-first-end : goal.returns-then-first-end
 returns-then-first-end c =
     let s = c.args.self.now in
     let f = row_at s.mask.bytes.now in (
-      no_index f s.mask.offset s.mask.len s.at s.inside (λ k h l. c.stretch-end-first.ensures.alike k h (omega arith)),
+      no_index f s.mask.offset s.mask.len s.at s.inside (λ k h l. c.stretch_end-first.ensures.alike k h (omega arith)),
       ap (chosen s.mask.len) (none_left f s.mask.offset s.mask.len s.at s.inside),
     )
 
 pub returns : goal.returns
 returns c =
     let s = c.args.self.now in
-    let found = c.stretch-end-first.ensures in
-    next-index (row_at s.mask.bytes.now) s.mask.offset s.mask.len s.at s.inside c.stretch-end-first.result (omega arith) (omega arith)
+    let found = c.stretch_end-first.ensures in
+    next-index (row_at s.mask.bytes.now) s.mask.offset s.mask.len s.at s.inside c.stretch_end-first.result (omega arith) (omega arith)
     found.alike (found.stops (omega arith))

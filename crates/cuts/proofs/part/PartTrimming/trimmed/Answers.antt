@@ -10,4 +10,4 @@ returns g c =
     let xs = g.S.RunSource.rows s.source in
     let zs = take s.left xs in
     let short : length (trimmed zs) ≤ s.left = omega (arith, ap length (trimmed-front zs), length-take (length (trimmed zs)) zs, length-take s.left xs) in
-    ap (λ k. take k xs) c.up-to-last.ensures ∙ sym (trimmed-front zs ∙ take-take (length (trimmed zs)) s.left xs short)
+    ap (λ k. take k xs) c.up_to_last.ensures ∙ sym (trimmed-front zs ∙ take-take (length (trimmed zs)) s.left xs short)

@@ -3,8 +3,8 @@ use Rattle.bits.proofs.Words.{rows_append}
 use Rattle.masks.proofs.SpareLaws.{spare_more, keeps-more}
 use Rattle.masks.proofs.place.MaskPlace.append.Goals as goal
 
-pub invariant-of-self : goal.invariant-of-self
-invariant-of-self c =
+pub invariant_of-self : goal.invariant_of-self
+invariant_of-self c =
     let s = c.args.self.now in
     let xs = s.bytes.now in
     let v = c.topped-v.result in

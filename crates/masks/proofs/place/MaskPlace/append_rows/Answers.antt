@@ -8,8 +8,8 @@ loop-j-preserved c =
     let inv = c.loop-j.invariant in
     (inv.0, inv.1, stored_more s.bytes.now c.loop-j.self.bytes.now (s.len / 8) c.args.w c.loop-j.j _ (omega (arith, c.requires.begins, c.requires.room.0)) refl inv.2)
 
-pub invariant-of-self-2 : goal.invariant-of-self-2
-invariant-of-self-2 c =
+pub invariant_of-self-2 : goal.invariant_of-self-2
+invariant_of-self-2 c =
     let s = c.args.self.now in
     let t = c.loop-j.self in
     let stored = c.loop-j.invariant.2 in

@@ -6,7 +6,7 @@ pub returns : goal.returns
 returns c =
     let s = c.args.self.now in
     let xs = s.bytes.now in
-    let stored = stored-word xs c.to-le-bytes-b.result (s.len / 8) c.args.w (omega (arith, c.requires.begins, c.requires.room.0)) c.to-le-bytes-b.ensures in
+    let stored = stored-word xs c.to_le_bytes-b.result (s.len / 8) c.args.w (omega (arith, c.requires.begins, c.requires.room.0)) c.to_le_bytes-b.ensures in
     record {
       rows = stored-rows xs _ s.len (s.len / 8) c.args.w 8 64 (omega (arith, c.requires.begins)) refl stored;
       len = refl;

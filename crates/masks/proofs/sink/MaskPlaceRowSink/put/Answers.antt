@@ -16,10 +16,10 @@ returns-then-at-n c =
     let s = c.args.self.now in
     record { takes = (past-limit s.bytes.now _ s.len c.args.run.row_count (not c.args.run.skip) (omega (arith, s.few, c.if-at-n.true)), refl); stays = refl; rest = untouched-same s }
 
-pub returns-then-self-bytes-for : goal.returns-then-self-bytes-for
-returns-then-self-bytes-for c =
+pub returns-then-self-bytes_for : goal.returns-then-self-bytes_for
+returns-then-self-bytes_for c =
     let s = c.args.self.now in
-    record { takes = (past_bytes s.bytes.now _ s.len c.args.run.row_count (not c.args.run.skip) (omega (arith, c.bytes-for.ensures, c.if-self-bytes-for.true)), refl); stays = refl; rest = untouched-same s }
+    record { takes = (past_bytes s.bytes.now _ s.len c.args.run.row_count (not c.args.run.skip) (omega (arith, c.bytes_for.ensures, c.if-self-bytes_for.true)), refl); stays = refl; rest = untouched-same s }
 
 pub loop-self-preserved : goal.loop-self-preserved
 loop-self-preserved c =
@@ -44,7 +44,7 @@ returns c =
     let b = not c.args.run.skip in
     let all : t.len ≡ s.len + n = omega (arith, i.1, c.loop-self-test.false) in
     record {
-      takes = (mask-room s.bytes.now (length s.bytes.now) s.len n b (omega (arith, s.few, c.if-at-n.false)) (omega (arith, c.bytes-for.ensures, c.if-self-bytes-for.false)), all_of (written s) _ b s.len n t.len all i.2);
+      takes = (mask-room s.bytes.now (length s.bytes.now) s.len n b (omega (arith, s.few, c.if-at-n.false)) (omega (arith, c.bytes_for.ensures, c.if-self-bytes_for.false)), all_of (written s) _ b s.len n t.len all i.2);
       stays = i.3.1;
       rest = i.3;
     }

@@ -5,10 +5,10 @@ use Rattle.bits.specs.Masks.{rows}
 use Rattle.masks.proofs.RunsLeft.{none_left, change, some-ahead, run-rows, run-stops}
 use Rattle.masks.proofs.source.MaskRunIterRunSource.next_run.Goals as goal
 
-pub returns-in-default : goal.returns-in-default
-returns-in-default c =
+pub returns-in_default : goal.returns-in_default
+returns-in_default c =
     let s = c.args.self.now in
-    let none = none_left (rows s.mask) s.at (sym c.in-default.ensures) in
+    let none = none_left (rows s.mask) s.at (sym c.in_default.ensures) in
     (none, none)
 
 pub returns : goal.returns
@@ -17,8 +17,8 @@ returns c =
     let xs = rows s.mask in
     let b = c.in-Some.set in
     let here = sym c.in-Some.ensures in
-    let to = c.next-change-to.ensures in
-    let n = c.next-change-to.result in
+    let to = c.next_change-to.ensures in
+    let n = c.next_change-to.result in
     let same = sym (not-not b) in
     let begins = subst (λ k. drop s.at xs ≡ replicate (k - s.at) b ++ drop k xs) (sym to) (run-rows xs s.at b here) in (
       omega (arith, to, change xs s.at b here, some-ahead xs s.at b here),

@@ -5,4 +5,4 @@ use Rattle.pages.proofs.FetchLaws.{wanted-few}
 use Rattle.pages.proofs.ranges.ByteRangesItemsByteRange.at_most.Goals as goal
 
 pub returns : goal.returns
-returns g c = let w = c.args.self.now.walk in omega (arith, wanted-few span_bytes w.pages.now (held_rows g.S.RunSource.rows w.rows), c.pages-left.ensures)
+returns g c = let w = c.args.self.now.walk in omega (arith, wanted-few span_bytes w.pages.now (held_rows g.S.RunSource.rows w.rows), c.pages_left.ensures)

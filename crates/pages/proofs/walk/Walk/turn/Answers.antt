@@ -16,18 +16,18 @@ tail xs = take (length xs - 1) (drop 1 xs)
 cut : (xs : List PageLocation) → 0 < length xs → xs ≡ head xs ∷ tail xs
 cut xs h = first_rest xs _ h
 
-pub returns-in-default : goal.returns-in-default
-returns-in-default g c =
+pub returns-in_default : goal.returns-in_default
+returns-in_default g c =
     let none = nil_from_length c.args.self.now.pages.now (search rules) in (none, none)
 
 pub holds-wanted-requires : goal.holds-wanted-requires
 holds-wanted-requires g c =
     let s = c.args.self.now in
     let ps = s.pages.now in
-    subst (λ n. InTurn (head ps) n) (sym c.next-of-next.ensures) (in-turn ps (head ps) (tail ps) (cut ps (search rules)) s.sound).0
+    subst (λ n. InTurn (head ps) n) (sym c.next_of-next.ensures) (in-turn ps (head ps) (tail ps) (cut ps (search rules)) s.sound).0
 
-pub invariant-of-self : goal.invariant-of-self
-invariant-of-self g c =
+pub invariant_of-self : goal.invariant_of-self
+invariant_of-self g c =
     let s = c.args.self.now in
     let ps = s.pages.now in
     ((in-turn ps (head ps) (tail ps) (cut ps (search rules)) s.sound).1, tt)
@@ -37,4 +37,4 @@ returns g c =
     let s = c.args.self.now in
     let ps = s.pages.now in
     let w = c.holds-wanted.ensures in
-    turned ps (head ps) (tail ps) c.next-of-next.result _ _ c.holds-wanted.result (cut ps (search rules)) c.next-of-next.ensures s.sound w.any w.rest
+    turned ps (head ps) (tail ps) c.next_of-next.result _ _ c.holds-wanted.result (cut ps (search rules)) c.next_of-next.ensures s.sound w.any w.rest

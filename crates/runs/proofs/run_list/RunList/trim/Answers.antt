@@ -14,8 +14,8 @@ lastRun xs = get_or xs (length xs - 1) (record { row_count = 0; skip = false })
 cut : (xs : List RowSelector) → 0 < length xs → xs ≡ but_last xs ++ lastRun xs ∷ []
 cut xs h = with-last xs (lastRun xs) (last-at xs _ h)
 
-pub returns-in-default : goal.returns-in-default
-returns-in-default c =
+pub returns-in_default : goal.returns-in_default
+returns-in_default c =
     let none = ap run_rows (nil_from_length c.args.self.runs.now (search rules)) in
     none ∙ sym (ap trimmed none)
 
@@ -25,14 +25,14 @@ returns-then-not-last c =
     let xs = s.runs.now in
     selected-trimmed xs (lastRun xs) s.whole (cut xs (search rules)) c.if-not-last.true
 
-pub overflow-sub-result : goal.overflow-sub-result
-overflow-sub-result c =
+pub overflow_sub-result : goal.overflow_sub-result
+overflow_sub-result c =
     let s = c.args.self in
     let xs = s.runs.now in
     omega (arith, s.counted, front_length xs (lastRun xs) s.whole (cut xs (search rules)))
 
-pub invariant-of-result : goal.invariant-of-result
-invariant-of-result c =
+pub invariant_of-result : goal.invariant_of-result
+invariant_of-result c =
     let s = c.args.self in
     let xs = s.runs.now in
     let e = cut xs (search rules) in (

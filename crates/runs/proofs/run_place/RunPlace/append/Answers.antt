@@ -9,13 +9,13 @@ use Rattle.runs.proofs.run_place.RunPlace.append.Goals.{After-selected}
 rows-after : (c : After-selected) → run_rows (held c.push.new.self) ≡ run_rows (held c.args.self.now.list) ++ run_of c.args.run
 rows-after c = ap run_rows c.if-not-push.ensures.pushed.2 ∙ run_rows-push (held c.args.self.now.list) c.args.run
 
-pub overflow-add-self-2 : goal.overflow-add-self-2
-overflow-add-self-2 c =
+pub overflow_add-self-2 : goal.overflow_add-self-2
+overflow_add-self-2 c =
     let s = c.args.self.now in
     omega (arith, s.chosen, s.counted, c.requires.few, more-selected (run_rows (held s.list)) _ c.args.run (rows-after c), more_rows (run_rows (held s.list)) _ c.args.run (rows-after c), selected-le (run_rows (held c.push.new.self)), c.selected.ensures)
 
-pub invariant-of-self-2 : goal.invariant-of-self-2
-invariant-of-self-2 c =
+pub invariant_of-self-2 : goal.invariant_of-self-2
+invariant_of-self-2 c =
     let s = c.args.self.now in
     let p = c.if-not-push.ensures.pushed in
     let xs = held s.list in (

@@ -8,8 +8,8 @@ use Rattle.runs.proofs.RunPlaceLaws.{longer-canonical, longer-is, last_within, m
 use Rattle.runs.proofs.run_place.RunPlace.lengthen.Goals as goal
 use Rattle.runs.proofs.run_place.RunPlace.lengthen.Goals.{After-selected}
 
-pub overflow-add-last : goal.overflow-add-last
-overflow-add-last c =
+pub overflow_add-last : goal.overflow_add-last
+overflow_add-last c =
     let s = c.args.self.now in
     let e = with-last (held s.list) c.args.last c.requires.last in
     omega (arith, last_within (but_last (held s.list)) c.args.last c.args.more (held s.list) e, s.counted, c.requires.few)
@@ -17,26 +17,26 @@ overflow-add-last c =
 abbrev grown : After-selected → RowSelector
 grown c = record { row_count = c.args.more; skip = c.args.last.skip }
 
-after : (c : After-selected) → (c.replace-last.new.self.len ≡ c.args.self.now.list.len) × (held c.replace-last.new.self ≡ but_last (held c.args.self.now.list) ++ (record { row_count = c.args.last.row_count + c.args.more; skip = c.args.last.skip } ∷ []))
+after : (c : After-selected) → (c.replace_last.new.self.len ≡ c.args.self.now.list.len) × (held c.replace_last.new.self ≡ but_last (held c.args.self.now.list) ++ (record { row_count = c.args.last.row_count + c.args.more; skip = c.args.last.skip } ∷ []))
 after c =
     let s = c.args.self.now in
-    replaced s.list _ _ c.replace-last.result (some-last s.list.slots.now s.list.len c.args.last c.requires.last) s.inside c.replace-last.ensures.replaced
+    replaced s.list _ _ c.replace_last.result (some-last s.list.slots.now s.list.len c.args.last c.requires.last) s.inside c.replace_last.ensures.replaced
 
-rows-after : (c : After-selected) → run_rows (held c.replace-last.new.self) ≡ run_rows (held c.args.self.now.list) ++ run_of (grown c)
+rows-after : (c : After-selected) → run_rows (held c.replace_last.new.self) ≡ run_rows (held c.args.self.now.list) ++ run_of (grown c)
 rows-after c =
     let xs = held c.args.self.now.list in
     ap run_rows (after c).1 ∙ longer-is (but_last xs) c.args.last c.args.more xs (with-last xs c.args.last c.requires.last)
 
-pub overflow-add-self-2 : goal.overflow-add-self-2
-overflow-add-self-2 c =
+pub overflow_add-self-2 : goal.overflow_add-self-2
+overflow_add-self-2 c =
     let s = c.args.self.now in
-    omega (arith, s.chosen, s.counted, c.requires.few, more-selected (run_rows (held s.list)) _ (grown c) (rows-after c), more_rows (run_rows (held s.list)) _ (grown c) (rows-after c), selected-le (run_rows (held c.replace-last.new.self)), c.selected.ensures)
+    omega (arith, s.chosen, s.counted, c.requires.few, more-selected (run_rows (held s.list)) _ (grown c) (rows-after c), more_rows (run_rows (held s.list)) _ (grown c) (rows-after c), selected-le (run_rows (held c.replace_last.new.self)), c.selected.ensures)
 
-pub invariant-of-self : goal.invariant-of-self
-invariant-of-self c =
+pub invariant_of-self : goal.invariant_of-self
+invariant_of-self c =
     let s = c.args.self.now in
     let xs = held s.list in (
-      omega (arith, (after c).0, s.inside, c.replace-last.ensures.rest.1),
+      omega (arith, (after c).0, s.inside, c.replace_last.ensures.rest.1),
       (
         ap canonical (after c).1 ∙ longer-canonical (but_last xs) c.args.last c.args.more xs (with-last xs c.args.last c.requires.last) s.whole,
         (
@@ -50,4 +50,4 @@ invariant-of-self c =
     )
 
 pub returns : goal.returns
-returns c = record { rows = rows-after (goal.at.returns c).After-selected; rest = c.replace-last.ensures.rest }
+returns c = record { rows = rows-after (goal.at.returns c).After-selected; rest = c.replace_last.ensures.rest }

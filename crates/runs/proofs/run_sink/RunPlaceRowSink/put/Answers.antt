@@ -40,4 +40,4 @@ offered s t r false u h e o = (no_slot s.list r s.inside s.whole u h o.0, ap (λ
 pub returns : goal.returns
 returns c =
     let s = c.args.self.now in
-    record { takes = offered s c.append.new.self c.args.run c.append.result c.in-default.ensures (omega (arith, c.if-run-eq0.false)) c.append.ensures.rest.1 c.append.ensures.takes; stays = c.append.ensures.rest.1; rest = c.append.ensures.rest }
+    record { takes = offered s c.append.new.self c.args.run c.append.result c.in_default.ensures (omega (arith, c.if-run-eq0.false)) c.append.ensures.rest.1 c.append.ensures.takes; stays = c.append.ensures.rest.1; rest = c.append.ensures.rest }

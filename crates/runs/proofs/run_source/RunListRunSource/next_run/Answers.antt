@@ -15,24 +15,24 @@ tail xs = take (length xs - 1) (drop 1 xs)
 cut : (xs : List RowSelector) → 0 < length xs → xs ≡ head xs ∷ tail xs
 cut xs h = first_rest xs _ h
 
-pub returns-in-default : goal.returns-in-default
-returns-in-default c =
+pub returns-in_default : goal.returns-in_default
+returns-in_default c =
     let none = ap run_rows (nil_from_length c.args.self.now.runs.now (search rules)) in (none, none)
 
-pub overflow-sub-self : goal.overflow-sub-self
-overflow-sub-self c =
+pub overflow_sub-self : goal.overflow_sub-self
+overflow_sub-self c =
     let s = c.args.self.now in
     let xs = s.runs.now in
     omega (arith, s.counted, rest-length xs (head xs) (tail xs) (cut xs (search rules)))
 
-pub overflow-sub-self-2 : goal.overflow-sub-self-2
-overflow-sub-self-2 c =
+pub overflow_sub-self-2 : goal.overflow_sub-self-2
+overflow_sub-self-2 c =
     let s = c.args.self.now in
     let xs = s.runs.now in
     omega (arith, s.chosen, c.selected.ensures, rest-selected xs (head xs) (tail xs) (cut xs (search rules)))
 
-pub invariant-of-self : goal.invariant-of-self
-invariant-of-self c =
+pub invariant_of-self : goal.invariant_of-self
+invariant_of-self c =
     let s = c.args.self.now in
     let xs = s.runs.now in
     let e = cut xs (search rules) in (

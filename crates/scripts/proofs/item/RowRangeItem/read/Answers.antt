@@ -6,7 +6,7 @@ use Rattle.scripts.proofs.item.RowRangeItem.read.Goals as goal
 
 pub returns : goal.returns
 returns c =
-    let second = c.in-ok-next.ensures in
+    let second = c.in_ok-next.ensures in
     record {
       item = ap (λ ws. ranges_of (c.args.first.now ∷ ws)) second ∙ ap (λ o. added o (ranges_of (left c.next.new.self))) (sym c.range.ensures);
       fewer = omega (arith, ap length second);

@@ -8,8 +8,8 @@ pub returns : goal.returns
 returns c =
     let self = c.args.self.now in
     let t = self.rest.now in
-    let n = c.word-len-end.result in
-    let told = c.word-len-end.ensures in
+    let n = c.word_len-end.result in
+    let told = c.word_len-end.ensures in
     elim c.if-end-text.branch [
       | then-end-text w ↦
           next_more t n self.more c.if-not-self.false told.before w.if-end-text.true (told.found w.if-end-text.true)

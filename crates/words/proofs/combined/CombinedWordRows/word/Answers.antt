@@ -18,4 +18,4 @@ returns g c =
     let isx : length ys < length xs → c.if-len.longer ≡ c.word-x.result = λ h. elim c.if-len.branch [ then-len w ↦ w.longer-is | else-len w ↦ absurd (omega (arith, w.if-len.false, c.len-3.ensures, c.len-4.ensures)) ] in
     let isy : length xs ≤ length ys → c.if-len.longer ≡ c.word-y.result = λ h. elim c.if-len.branch [ then-len w ↦ absurd (omega (arith, w.if-len.true, c.len-3.ensures, c.len-4.ensures)) | else-len w ↦ w.longer-is ] in
     combined-part g.P.Policy.rule xs ys c.args.at c.word-x.result c.word-y.result c.word-2.result c.word-x.ensures c.word-y.ensures c.word-2.ensures
-    c.splice.result c.if-len.longer c.saturating-sub-both.result (omega (arith, c.len.ensures, c.len-2.ensures)) c.splice.ensures.under c.splice.ensures.over isx isy
+    c.splice.result c.if-len.longer c.saturating_sub-both.result (omega (arith, c.len.ensures, c.len-2.ensures)) c.splice.ensures.under c.splice.ensures.over isx isy

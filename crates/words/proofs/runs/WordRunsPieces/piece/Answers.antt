@@ -7,7 +7,7 @@ use Rattle.words.proofs.runs.WordRunsPieces.piece.Goals as goal
 pub returns-then-left-eq0 : goal.returns-then-left-eq0
 returns-then-left-eq0 g c =
     let s = c.args.self.now in
-    let none = drop_all s.at (g.W.WordRows.rows s.from) (omega (arith, c.len.ensures, c.if-left-eq0.true, c.saturating-sub-left.ensures)) in
+    let none = drop_all s.at (g.W.WordRows.rows s.from) (omega (arith, c.len.ensures, c.if-left-eq0.true, c.saturating_sub-left.ensures)) in
     (none, none)
 
 pub returns : goal.returns
@@ -17,8 +17,8 @@ returns g c =
     let w = c.word-w.result in
     let n = c.min-n.result in
     let set = eqb (w % 2) 1 in
-    let same = c.same-bits.ensures in (
-      omega (arith, some-lead w c.same-bits.result set refl same.stops, c.if-left-eq0.false, c.min-n.ensures),
-      word-leads xs s.at w n set c.word-w.ensures (omega (arith, same.within, c.min-n.ensures)) (omega (arith, c.len.ensures, c.min-n.ensures, c.saturating-sub-left.ensures, c.if-left-eq0.false)) (λ k h. same.alike k (omega (arith, c.min-n.ensures)))
+    let same = c.same_bits.ensures in (
+      omega (arith, some-lead w c.same_bits.result set refl same.stops, c.if-left-eq0.false, c.min-n.ensures),
+      word-leads xs s.at w n set c.word-w.ensures (omega (arith, same.within, c.min-n.ensures)) (omega (arith, c.len.ensures, c.min-n.ensures, c.saturating_sub-left.ensures, c.if-left-eq0.false)) (λ k h. same.alike k (omega (arith, c.min-n.ensures)))
           ∙ ap (λ b. replicate n b ++ drop (s.at + n) xs) (sym (not-not set)),
     )

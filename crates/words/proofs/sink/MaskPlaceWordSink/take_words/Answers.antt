@@ -21,22 +21,22 @@ loop-at-preserved g c =
     let at = c.loop-at.at in
     let w = c.word.result in
     let i = c.loop-at.invariant in
-    let p = c.append-word.ensures in (
+    let p = c.append_word.ensures in (
       omega (arith, p.len, i.0),
       omega (arith, i.1),
       omega (arith, c.loop-at-test.true),
       p.rows ∙ words_more xs (written c.loop-at.self) at w 64 c.word.ensures (omega arith) (omega (arith, c.len-n.ensures, c.loop-at-test.true)) i.3,
-      untouched-chain c.clear.new.self c.loop-at.self c.append-word.new.self (word_rows w 64) p.rows i.4 p.rest,
+      untouched-chain c.clear.new.self c.loop-at.self c.append_word.new.self (word_rows w 64) p.rows i.4 p.rest,
     )
 
-pub append-rows-requires : goal.append-rows-requires
-append-rows-requires g c =
+pub append_rows-requires : goal.append_rows-requires
+append_rows-requires g c =
     let i = c.loop-at.invariant in
     let left = c.len-n.result - c.loop-at.at in
-    let fits = admits bits (length c.args.self.now.bytes.now) (bytes_of c.len-n.result) c.in-ok-admit.ensures in
+    let fits = admits bits (length c.args.self.now.bytes.now) (bytes_of c.len-n.result) c.in_ok-admit.ensures in
     record {
       begins = omega (arith, i.0, i.1);
-      word = (omega arith, word_small (g.W.WordRows.rows c.args.from) c.loop-at.at c.word-2.result left c.word-2.ensures c.word-2.type-inv (omega arith) (omega (arith, c.len-n.ensures)));
+      word = (omega arith, word_small (g.W.WordRows.rows c.args.from) c.loop-at.at c.word-2.result left c.word-2.ensures c.word-2.type_inv (omega arith) (omega (arith, c.len-n.ensures)));
       room = (omega (arith, i.0, i.2, i.4.1, fits, c.clear.ensures.stays), omega (arith, i.0, i.2, c.len-n.ensures, g.W.WordRows.within c.args.from));
     }
 
@@ -48,12 +48,12 @@ returns g c =
     let w = c.word-2.result in
     let left = c.len-n.result - at in
     let i = c.loop-at.invariant in
-    let p = c.append-rows.ensures in
+    let p = c.append_rows.ensures in
     let empty = c.clear.new.self in
-    let end = c.append-rows.new.self in
+    let end = c.append_rows.new.self in
     let all : written end ≡ xs = p.rows ∙ words_more xs (written c.loop-at.self) at w left c.word-2.ensures (omega arith) (omega (arith, c.len-n.ensures, i.2)) i.3 ∙ take_all (at + left) xs (omega (arith, c.len-n.ensures)) in
     record {
-      verdict = c.in-ok-admit.ensures ∙ ap (λ n. admitted bits (length s.bytes.now) (bytes_of n)) c.len-n.ensures;
+      verdict = c.in_ok-admit.ensures ∙ ap (λ n. admitted bits (length s.bytes.now) (bytes_of n)) c.len-n.ensures;
       written = all;
       rest = untouched-chain s empty end xs (all ∙ ap (λ l. l ++ xs) (sym c.clear.ensures.none)) c.clear.ensures.rest (untouched-chain empty c.loop-at.self end (word_rows w left) p.rows i.4 p.rest);
     }
