@@ -31,7 +31,7 @@ write-requires-2 g c =
 pub returns-in_err-fits : goal.returns-in_err-fits
 returns-in_err-fits g c =
     let k = g.K.RowSink in
-    let p = err_from_is_err_and c.from-residual.result c.from-residual.ensures.1 in
+    let p = err_from_is_err_and c.from_residual.result c.from_residual.ensures.1 in
     let one = c.in_err-fits.ensures ∙ ap (placed k.layer k.cost (k.capacity c.args.front.now)) c.new-first.ensures in
     rw (p.1, p.2) (record { verdict = first-told c.in_err-fits.field-0.0 _ _ one; front = refl; rest = refl; split = tt; beyond = (k.still _, g.L.RowSink.still _) })
 
@@ -39,7 +39,7 @@ pub returns-in_err-fits-2 : goal.returns-in_err-fits-2
 returns-in_err-fits-2 g c =
     let k = g.K.RowSink in
     let l = g.L.RowSink in
-    let p = err_from_is_err_and c.from-residual-in_err-fits-2.result c.from-residual-in_err-fits-2.ensures.1 in
+    let p = err_from_is_err_and c.from_residual-in_err-fits-2.result c.from_residual-in_err-fits-2.ensures.1 in
     let one = c.in_ok-fits.ensures ∙ ap (placed k.layer k.cost (k.capacity c.args.front.now)) c.new-first.ensures in
     let two = c.in_err-fits-2.ensures ∙ ap (placed l.layer l.cost (l.capacity c.args.rest.now)) c.new-second.ensures in
     rw (p.1, p.2) (record { verdict = second-told _ _ _ one two; front = refl; rest = refl; split = tt; beyond = (k.still _, l.still _) })

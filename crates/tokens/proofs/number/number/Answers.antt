@@ -9,7 +9,7 @@ returns-in_err-n c =
     let w = c.args.word.now in
     let i = c.loop-b.b-index in
     let n = c.loop-b.n in
-    c.from-residual.ensures
+    c.from_residual.ensures
     ∙ sym (whole w (omega (arith, false-eqb _ 0 c.if-is_empty.ensures)) ∙ ap (below (2 ^ 64)) (sym c.loop-b.invariant.1 ∙ ap (digits_after n) (drop_more w i 0 c.loop-b-test.true))
     ∙ stop n (get_or w i 0) (drop (i + 1) w) c.in_err-n.ensures)
 

@@ -35,13 +35,12 @@ pub invariant_of-result : goal.invariant_of-result
 invariant_of-result c =
     let s = c.args.self in
     let xs = s.runs.now in
-    let e = cut xs (search rules) in (
-      front-canonical xs (lastRun xs) s.whole e,
-      (
-        omega (arith, s.counted, front_length xs (lastRun xs) s.whole e),
-        (s.chosen ∙ front-count xs (lastRun xs) s.whole e c.if-not-last.false, (omega (arith, s.within), tt)),
-      ),
-    )
+    let e = cut xs (search rules) in record {
+      whole = front-canonical xs (lastRun xs) s.whole e;
+      counted = omega (arith, s.counted, front_length xs (lastRun xs) s.whole e);
+      chosen = s.chosen ∙ front-count xs (lastRun xs) s.whole e c.if-not-last.false;
+      within = omega (arith, s.within);
+    }
 
 pub returns : goal.returns
 returns c =

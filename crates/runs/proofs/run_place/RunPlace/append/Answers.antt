@@ -18,19 +18,13 @@ pub invariant_of-self-2 : goal.invariant_of-self-2
 invariant_of-self-2 c =
     let s = c.args.self.now in
     let p = c.if-not-push.ensures.pushed in
-    let xs = held s.list in (
-      omega (arith, p.0, p.1, c.push.ensures.rest.1),
-      (
-        ap canonical p.2 ∙ canonical-push xs c.args.run s.whole c.requires.apart c.requires.some,
-        (
-          omega (arith, s.counted, more_rows (run_rows xs) _ c.args.run (rows-after c)),
-          (
-            omega (arith, s.chosen, c.selected.ensures, more-selected (run_rows xs) _ c.args.run (rows-after c)),
-            (c.requires.few, tt),
-          ),
-        ),
-      ),
-    )
+    let xs = held s.list in record {
+      inside = omega (arith, p.0, p.1, c.push.ensures.rest.1);
+      whole = ap canonical p.2 ∙ canonical-push xs c.args.run s.whole c.requires.apart c.requires.some;
+      counted = omega (arith, s.counted, more_rows (run_rows xs) _ c.args.run (rows-after c));
+      chosen = omega (arith, s.chosen, c.selected.ensures, more-selected (run_rows xs) _ c.args.run (rows-after c));
+      within = c.requires.few;
+    }
 
 pub returns : goal.returns
 returns c = record { takes = rows-after (goal.at.returns c).After-selected; rest = c.push.ensures.rest }

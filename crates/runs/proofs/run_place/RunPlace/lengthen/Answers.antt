@@ -35,19 +35,13 @@ overflow_add-self-2 c =
 pub invariant_of-self : goal.invariant_of-self
 invariant_of-self c =
     let s = c.args.self.now in
-    let xs = held s.list in (
-      omega (arith, (after c).0, s.inside, c.replace_last.ensures.rest.1),
-      (
-        ap canonical (after c).1 ∙ longer-canonical (but_last xs) c.args.last c.args.more xs (with-last xs c.args.last c.requires.last) s.whole,
-        (
-          omega (arith, s.counted, more_rows (run_rows xs) _ (grown c) (rows-after c)),
-          (
-            omega (arith, s.chosen, c.selected.ensures, more-selected (run_rows xs) _ (grown c) (rows-after c)),
-            (c.requires.few, tt),
-          ),
-        ),
-      ),
-    )
+    let xs = held s.list in record {
+      inside = omega (arith, (after c).0, s.inside, c.replace_last.ensures.rest.1);
+      whole = ap canonical (after c).1 ∙ longer-canonical (but_last xs) c.args.last c.args.more xs (with-last xs c.args.last c.requires.last) s.whole;
+      counted = omega (arith, s.counted, more_rows (run_rows xs) _ (grown c) (rows-after c));
+      chosen = omega (arith, s.chosen, c.selected.ensures, more-selected (run_rows xs) _ (grown c) (rows-after c));
+      within = c.requires.few;
+    }
 
 pub returns : goal.returns
 returns c = record { rows = rows-after (goal.at.returns c).After-selected; rest = c.replace_last.ensures.rest }

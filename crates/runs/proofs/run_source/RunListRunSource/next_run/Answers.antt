@@ -35,16 +35,12 @@ pub invariant_of-self : goal.invariant_of-self
 invariant_of-self c =
     let s = c.args.self.now in
     let xs = s.runs.now in
-    let e = cut xs (search rules) in (
-      (rest-canonical xs (head xs) (tail xs) e s.whole).2,
-      (
-        omega (arith, s.counted, rest-length xs (head xs) (tail xs) e),
-        (
-          omega (arith, s.chosen, c.selected.ensures, rest-selected xs (head xs) (tail xs) e),
-          (omega (arith, s.within), tt),
-        ),
-      ),
-    )
+    let e = cut xs (search rules) in record {
+      whole = (rest-canonical xs (head xs) (tail xs) e s.whole).2;
+      counted = omega (arith, s.counted, rest-length xs (head xs) (tail xs) e);
+      chosen = omega (arith, s.chosen, c.selected.ensures, rest-selected xs (head xs) (tail xs) e);
+      within = omega (arith, s.within);
+    }
 
 pub returns : goal.returns
 returns c =
