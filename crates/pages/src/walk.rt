@@ -11,13 +11,23 @@ use crate::reads::next_of;
 use crate::turn::{PageSpan, Turn};
 use runs::held::Held;
 use runs::source::RunSource;
+use std::alloc::AllocError;
 
 // The pages still to come, and the rows from the first one's first row on.
-#[derive(Clone, Copy)]
+#[derive(Copy)]
 pub(crate) struct Walk<'a, S> {
     pages: &'a [PageLocation],
     rows: Held<S>,
     ghost sound: { rises pages.now ≡ true },
+}
+
+impl<'a, S: Clone> Clone for Walk<'a, S> {
+    fn clone(&self) -> Result<Walk<'a, S>, AllocError> {
+        Ok(Walk {
+            pages: self.pages,
+            rows: self.rows.clone()?,
+        })
+    }
 }
 
 impl<'a, S: RunSource> Walk<'a, S> {

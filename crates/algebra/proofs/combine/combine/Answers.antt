@@ -21,6 +21,6 @@ returns g c =
     record {
       verdict = c.deliver.ensures.verdict ∙ ap (placed k.layer k.cost (k.capacity c.args.out.now)) c.new.ensures;
       written = MatchResult-weaker c.deliver.result done (λ _ e. e ∙ c.new.ensures) (λ _ e. e);
-      row-by-row = MatchResult-weaker c.deliver.result done (λ _ e. subst (RowByRow f xs ys) (sym (e ∙ c.new.ensures)) (row-by-row f xs ys)) (λ _ _. tt);
+      row_by_row = MatchResult-weaker c.deliver.result done (λ _ e. subst (RowByRow f xs ys) (sym (e ∙ c.new.ensures)) (row-by-row f xs ys)) (λ _ _. tt);
       rest = c.deliver.ensures.rest;
     }

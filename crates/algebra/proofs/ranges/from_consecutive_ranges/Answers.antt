@@ -17,6 +17,6 @@ returns g c =
     record {
       verdict = c.deliver.ensures.verdict ∙ ranged-fits k.layer k.cost (k.capacity c.args.out.now) c.args.total rs (omega arith) ok;
       written = done;
-      in-ranges = MatchResult-weaker c.deliver.result done (λ _ e. subst (InRanges c.args.total rs) (sym e) (in-ranges c.args.total rs ok)) (λ _ _. tt);
+      in_ranges = MatchResult-weaker c.deliver.result done (λ _ e. subst (InRanges c.args.total rs) (sym e) (in-ranges c.args.total rs ok)) (λ _ _. tt);
       rest = c.deliver.ensures.rest;
     }

@@ -8,7 +8,11 @@ invariant_of-self c =
     let s = c.args.self.now in
     let xs = s.bytes.now in
     let v = c.topped-v.result in
-    (omega (arith, length-set xs (s.len / 8) v, c.requires.room.0, c.requires.room.1.0), (spare_more xs s.len c.args.m v c.requires.room.0 c.requires.room.1.0 c.topped-v.ensures.small, (c.requires.room.1.1, tt)))
+    record {
+      inside = omega (arith, length-set xs (s.len / 8) v, c.requires.room.0, c.requires.room.1.0);
+      spare = spare_more xs s.len c.args.m v c.requires.room.0 c.requires.room.1.0 c.topped-v.ensures.small;
+      few = c.requires.room.1.1;
+    }
 
 pub returns : goal.returns
 returns c =

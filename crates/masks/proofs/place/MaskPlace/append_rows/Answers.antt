@@ -14,7 +14,7 @@ invariant_of-self-2 c =
     let t = c.loop-j.self in
     let stored = c.loop-j.invariant.2 in
     let spare = stored-spare s.bytes.now t.bytes.now s.len (s.len / 8) c.args.w c.loop-j.j c.args.n (omega (arith, c.requires.begins)) (omega arith) stored c.requires.word.1 in
-    (omega (arith, c.requires.room.0, stored.long), (spare, (c.requires.room.1, tt)))
+    record { inside = omega (arith, c.requires.room.0, stored.long); spare = spare; few = c.requires.room.1 }
 
 pub returns : goal.returns
 returns c =
