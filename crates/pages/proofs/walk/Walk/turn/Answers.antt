@@ -30,7 +30,7 @@ pub invariant_of-self : goal.invariant_of-self
 invariant_of-self g c =
     let s = c.args.self.now in
     let ps = s.pages.now in
-    ((in-turn ps (head ps) (tail ps) (cut ps (search rules)) s.sound).1, tt)
+    record { sound = (in-turn ps (head ps) (tail ps) (cut ps (search rules)) s.sound).1 }
 
 pub returns : goal.returns
 returns g c =
