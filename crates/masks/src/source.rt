@@ -50,6 +50,6 @@ impl<'a> CountedSource for MaskRunIter<'a> {
     }
 
     fn selected_left(&self) -> usize {
-        self.rest().count_set_bits()
+        self.mask.slice(self.at, self.mask.len()).count_set_bits()
     }
 }

@@ -19,4 +19,4 @@ loop-first-preserved g c =
     c.in-Some-read.item
     _
     c.in_ok-push.ensures.items
-    (read g.T-as-Item.listed (left c.loop-first.words) (left c.next.new.self) (left c.read.new.words) c.in-Some.first.now (Some c.in-Some-read.item) c.in-Some.ensures c.in-Some-read.ensures.item)
+    (read g.T.Item.listed (left c.loop-first.words) (left c.next.new.self) (left c.read.new.words) c.in-Some.first.now (Some c.in-Some-read.item) c.in-Some.ensures c.in-Some-read.ensures.item)

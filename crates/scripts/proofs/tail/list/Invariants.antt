@@ -4,7 +4,7 @@ use Rattle.tokens.proofs.Lists.{prepended}
 use Rattle.scripts.proofs.tail.list.Given as goal
 
 abbrev pub invariant-loop-first : goal.invariant-loop-first
-invariant-loop-first g l = prepended (vec_items l.found) (g.T-as-Item.listed (left l.words)) ≡ g.T-as-Item.listed (left l.initial.words)
+invariant-loop-first g l = prepended (vec_items l.found) (g.T.Item.listed (left l.words)) ≡ g.T.Item.listed (left l.initial.words)
 
 abbrev pub decreases-loop-first : goal.decreases-loop-first
 decreases-loop-first g l = length (left l.words)

@@ -5,7 +5,7 @@ use Rattle.bits.specs.Masks.{rows}
 use Rattle.words.specs.Fronts.{skip_front}
 use Rattle.words.proofs.CutLaws.{offset-none, offset-some}
 use Rattle.words.proofs.offset.after_nth.Goals as goal
-use Rattle.words.proofs.offset.after_nth.Goals.{else-n-gt0-via-then-n-gt0+else-not-selects-from, else-n-gt0-via-else-n-gt0}
+use Rattle.words.proofs.offset.after_nth.Goals.{else-n-gt0-via-then-n-gt0+else-not-selects_from, else-n-gt0-via-else-n-gt0}
 
 pub returns-then-not-selects_from : goal.returns-then-not-selects_from
 returns-then-not-selects_from c =
@@ -20,7 +20,7 @@ returns c =
     let cut = c.find_nth_set_bit_position-cut in
     let past : 0 < n → nth_end n xs < length (trimmed xs) =
     λ h. elim c.else-n-gt0.branch [
-      | else-n-gt0-via-then-n-gt0+else-not-selects-from w ↦ omega (arith, ltb-true cut.result (length (trimmed xs)) (sym w.if-not-selects_from.ensures), cut.ensures)
+      | else-n-gt0-via-then-n-gt0+else-not-selects_from w ↦ omega (arith, ltb-true cut.result (length (trimmed xs)) (sym w.if-not-selects_from.ensures), cut.ensures)
       | else-n-gt0-via-else-n-gt0 w ↦ absurd (omega (arith, w.if-n-gt0.false))
     ] in
     ap (λ k. skip_front k xs) cut.ensures ∙ sym (offset-some n xs past)
