@@ -19,8 +19,8 @@ use std::io::{BufRead, BufReader, BufWriter, Write};
 fn told(rt: &HostRuntime, line: u64, stop: Stop) -> anyhow::Error {
     match stop {
         Stop::NoMemory => match format!(in rt.alloc(); "no memory for line {line}") {
-            Ok(text) => text.into(),
-            Err(_) => "no memory".into(),
+            Ok(text) => anyhow!(text),
+            Err(_) => anyhow!("no memory"),
         },
         Stop::Io(error) => error.into(),
     }

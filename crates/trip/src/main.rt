@@ -15,8 +15,8 @@ use tripfile::read::read_trip;
 // The fault of a trip file as the error that the program ends with.
 fn told(rt: &HostRuntime, path: &str, fault: TripFault) -> anyhow::Error {
     match format!(in rt.alloc(); "{path}: {fault}") {
-        Ok(text) => text.into(),
-        Err(_) => "no memory".into(),
+        Ok(text) => anyhow!(text),
+        Err(_) => anyhow!("no memory"),
     }
 }
 
