@@ -13,6 +13,7 @@ mod write;
 
 use crate::answer::{Stop, answer};
 use crate::slots::Slots;
+use anyhow::anyhow;
 use std::io::{BufRead, BufReader, BufWriter, Write};
 
 // Why the run ends early, with the number of the line.
