@@ -1,9 +1,9 @@
 -- Whole runs of rows that are the same, and runs of which one selects. Assumes nothing.
-use Rattle.std.proofs.Common.{◌≡◌, ℕ, zero, suc, ◌+◌, ◌-◌, ◌<◌, ◌≤◌, Bool, true, false, cond, not, ltb, List, [], ◌∷◌, ◌++◌, length, drop, replicate, is_some, Some, None, Option, sym, refl, ap, ◌∙◌, subst, arith}
-use Rattle.std.proofs.lemmas.Bool.{lt-ltb, le-ltb, true≢false}
+use Rattle.std.proofs.Common.{◌≡◌, ℕ, zero, suc, ◌-◌, ◌<◌, Bool, true, false, cond, not, ltb, List, [], ◌∷◌, ◌++◌, length, drop, replicate, is_some, Some, None, Option, sym, refl, ap, ◌∙◌, subst, arith}
+use Rattle.std.proofs.lemmas.Bool.{lt-ltb}
 use Rattle.rows.specs.declared.selector.RowSelector.{RowSelector}
 use Rattle.rows.specs.Items.{Decides}
-use Rattle.rows.specs.Rows.{same, selected_count, run_of, NotFirst}
+use Rattle.rows.specs.Rows.{selected_count, run_of, NotFirst}
 use Rattle.rows.specs.Chunks.{leading}
 use Rattle.rows.proofs.Counts.{length_run, piece-selected}
 use Rattle.rows.proofs.Stretches.{drop-stretch}

@@ -1,5 +1,5 @@
 -- One piece of a narrowing or a combining: h₀, h₁ and h₂ are what the first holds before, after the fill and after the take; k₀, k₁ and k₂ the second. Assumes nothing.
-use Rattle.std.proofs.Common.{◌≡◌, ℕ, Bool, true, false, not, List, [], ◌++◌, replicate, sym, refl, ap, ◌∙◌}
+use Rattle.std.proofs.Common.{◌≡◌, ℕ, Bool, true, false, not, List, [], ◌++◌, replicate, sym, ap, ◌∙◌}
 use Rattle.rows.specs.Rules.{and_then, combine}
 use Rattle.rows.proofs.Stretches.{not-not, and_then-skip, and_then-take, and_then-out, combine-both, combine-nil}
 

@@ -1,8 +1,8 @@
 -- A mask place's own rows make a mask. Assumes nothing.
-use Rattle.std.proofs.Common.{◌≡◌, ℕ, ◌+◌, ◌-◌, ◌*◌, ◌≤◌, Bool, true, false, cond, List, length, is_ok, Ok, Err, Result, sym, refl, ap, ◌∙◌, arith}
+use Rattle.std.proofs.Common.{◌≡◌, ℕ, ◌+◌, ◌-◌, ◌*◌, ◌≤◌, true, cond, List, length, is_ok, Ok, Err, Result, refl, ap, ◌∙◌, arith}
 use Rattle.std.proofs.lemmas.Bool.{le-ltb}
 use Rattle.refusals.specs.declared.fault.SelectionFault.{SelectionFault}
-use Rattle.refusals.specs.Refusals.{verdict, refused, selection, bits, told_selection}
+use Rattle.refusals.specs.Refusals.{verdict, refused, selection, bits}
 use Rattle.rows.specs.Rows.{row_limit}
 use Rattle.runs.specs.Sinks.{Verdict}
 use Rattle.bits.specs.Masks.{mask_verdict, within_verdict}

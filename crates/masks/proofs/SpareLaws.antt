@@ -1,12 +1,11 @@
 -- Laws of a mask that grows at its end. Assumes nothing.
-use Rattle.std.proofs.Common.{◌≡◌, ℕ, ◌+◌, ◌-◌, ◌*◌, ◌/◌, ◌%◌, ◌^◌, ◌<◌, ◌≤◌, Bool, not, ◌⊎◌, List, ◌++◌, length, get_or, drop, set, replicate, sym, refl, ap, ◌∙◌, subst, inl, inr, append_assoc, append-nil, arith, length-append}
+use Rattle.std.proofs.Common.{◌≡◌, ℕ, ◌+◌, ◌-◌, ◌/◌, ◌%◌, ◌^◌, ◌<◌, ◌≤◌, Bool, List, ◌++◌, length, drop, set, replicate, sym, ap, ◌∙◌, append_assoc, append-nil, arith, length-append}
 use lib.ListN.{length-replicate}
 use Rattle.rows.specs.Rows.{row_limit}
 use Rattle.runs.specs.Sinks.{Room}
 use Rattle.bits.specs.Bits.{row_at, mask_rows}
 use Rattle.bits.proofs.RowLaws.{length-rows}
 use Rattle.std.proofs.lemmas.List.{get_or-set_same, drop-set-lt, replicate-append-replicate}
-use Rattle.std.proofs.lemmas.Bool.{cases_lt}
 use Rattle.masks.specs.Spares.{bytes_of, Spare}
 
 pub spare_more : (xs : List ℕ) (q m v : ℕ) → q / 8 < length xs → q % 8 + m ≤ 8 → v < 2 ^ (q % 8 + m) → Spare (q + m) (set xs (q / 8) v)

@@ -1,11 +1,11 @@
 -- The chunk rule in the words of `Said`. Assumes nothing.
-use Rattle.std.proofs.Common.{◌≡◌, ℕ, zero, suc, ◌+◌, ◌-◌, ◌<◌, ◌≤◌, min, Bool, true, false, cond, List, [], ◌∷◌, length, get_or, take, drop, Some, None, Option, sym, refl, ap, ◌∙◌, arith}
+use Rattle.std.proofs.Common.{◌≡◌, ℕ, zero, suc, ◌+◌, ◌-◌, ◌<◌, ◌≤◌, min, Bool, true, false, List, [], ◌∷◌, length, take, drop, Some, None, Option, sym, refl, ap, ◌∙◌, arith}
 use Rattle.std.proofs.lemmas.List.{take-take, length-take}
 use Rattle.std.proofs.lemmas.Bool.{true≢false}
 use Rattle.rows.specs.Rows.{selected_count}
 use Rattle.rows.specs.Rules.{limit, trimmed}
-use Rattle.rows.specs.Chunks.{leading, next_selected, is_loaded, loaded_end, rows_of_chunk}
-use Rattle.rows.specs.Said.{Selects, Chunked, ChunkRule}
+use Rattle.rows.specs.Chunks.{leading, next_selected, is_loaded, loaded_end}
+use Rattle.rows.specs.Said.{Selects, ChunkRule}
 use Rattle.rows.proofs.Endings.{limited, trimmed-last, trimmed-count, trimmed-front}
 
 drop-row : (n : ℕ) (xs : List Bool) (i : ℕ) → Selects (drop n xs) i ≡ Selects xs (n + i)

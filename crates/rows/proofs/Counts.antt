@@ -1,7 +1,7 @@
 -- Laws of the numbers of rows, selected rows and runs. Assumes nothing.
-use Rattle.std.proofs.Common.{◌≡◌, ℕ, zero, suc, ◌+◌, ◌-◌, ◌<◌, ◌≤◌, Bool, true, false, cond, not, List, [], ◌∷◌, ◌++◌, length, replicate, Some, None, Option, sym, refl, ap, ◌∙◌, arith, length-append}
+use Rattle.std.proofs.Common.{◌≡◌, ℕ, zero, suc, ◌+◌, ◌<◌, ◌≤◌, Bool, true, false, cond, not, List, [], ◌∷◌, ◌++◌, length, replicate, Some, None, Option, refl, ap, ◌∙◌, arith, length-append}
 use lib.ListN.{length-replicate}
-use Rattle.rows.specs.Rows.{same, selected_count, begins, runs_after, count_runs, NotFirst}
+use Rattle.rows.specs.Rows.{selected_count, begins, runs_after, count_runs, NotFirst}
 
 begins-same : (b : Bool) → begins (Some b) b ≡ 0
 begins-same true = refl

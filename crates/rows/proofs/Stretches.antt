@@ -1,5 +1,5 @@
 -- The row rules at a stretch of equal rows. Assumes nothing.
-use Rattle.std.proofs.Common.{◌≡◌, ℕ, zero, suc, ◌+◌, ◌-◌, ◌<◌, ◌≤◌, Bool, true, false, not, List, [], ◌∷◌, ◌++◌, length, take, drop, replicate, sym, refl, ap, ◌∙◌, append_assoc, arith}
+use Rattle.std.proofs.Common.{◌≡◌, ℕ, zero, suc, ◌+◌, ◌-◌, ◌<◌, ◌≤◌, Bool, true, false, not, List, [], ◌∷◌, ◌++◌, take, drop, replicate, sym, refl, ap, ◌∙◌, append_assoc, arith}
 use lib.ListN.{replicate-append-replicate}
 use Rattle.rows.specs.Rules.{and_then, combine, limit, skip_selected}
 use Rattle.rows.specs.Said.{Selects}

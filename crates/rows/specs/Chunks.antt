@@ -1,5 +1,5 @@
 -- Chunks of an opened selection: which rows a reader takes at once.
-use Rattle.std.specs.Prelude.{ℕ, suc, ◌+◌, ◌-◌, min, Bool, true, false, cond, List, [], ◌∷◌, length, drop, Some, None, Ok, Err, Option, Result, ◌==◌, nat_le, slice_index_or, slice_range}
+use Rattle.std.specs.Prelude.{ℕ, suc, ◌+◌, ◌-◌, min, Bool, true, false, cond, List, [], ◌∷◌, length, drop, Some, None, Ok, Option, Result, ◌==◌, nat_le, slice_index_or, slice_range}
 use Rattle.refusals.specs.declared.refusal.Refusal.{Refusal}
 use Rattle.refusals.specs.Refusals.{refused, reader}
 use Rattle.rows.specs.declared.chunk.MaskChunk.{MaskChunk}

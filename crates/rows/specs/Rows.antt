@@ -1,5 +1,5 @@
 -- Rows and runs. A selection is a list of row marks, true where the row is selected and false where it is skipped; row 0 stands first.
-use Rattle.std.specs.Prelude.{◌≡◌, ℕ, suc, ◌+◌, ◌<◌, ◌≤◌, Bool, true, false, cond, not, ◌&&◌, List, [], ◌∷◌, ◌++◌, length, take, replicate, Some, None, Option, nat_lt}
+use Rattle.std.specs.Prelude.{◌≡◌, ℕ, suc, ◌+◌, Bool, true, false, cond, not, ◌&&◌, List, [], ◌∷◌, ◌++◌, take, replicate, Some, None, Option, nat_lt}
 use Rattle.rows.specs.declared.selector.RowSelector.{RowSelector}
 
 -- the most rows that a selection may have

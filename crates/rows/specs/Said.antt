@@ -1,5 +1,5 @@
 -- The rules as people say them, of row i. Each statement is proved of the definitions in `Rules`, `Rows` and `Chunks`.
-use Rattle.std.specs.Prelude.{◌≡◌, ℕ, suc, ◌+◌, ◌-◌, ◌<◌, ◌≤◌, min, max, Bool, true, false, ◌&&◌, List, [], ◌++◌, length, get_or, take, drop, replicate, Option, slice_index_or, slice_range}
+use Rattle.std.specs.Prelude.{◌≡◌, ℕ, ◌-◌, ◌<◌, ◌≤◌, min, max, Bool, true, false, ◌&&◌, List, [], ◌++◌, length, get_or, take, drop, replicate, Option, slice_index_or, slice_range}
 use Rattle.rows.specs.declared.selector.RowSelector.{RowSelector}
 use Rattle.rows.specs.Rows.{selected_count, rank, run_rows, canonical}
 use Rattle.rows.specs.Rules.{and_then, combine, split_front, split_rest, offset, limit, trimmed}

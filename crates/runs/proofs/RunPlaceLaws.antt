@@ -1,15 +1,15 @@
 -- Laws of a run list that grows at its end. Assumes nothing.
-use Rattle.std.proofs.Common.{◌≡◌, ℕ, zero, suc, ◌+◌, ◌-◌, ◌<◌, ◌≤◌, Bool, true, false, cond, not, ◌&&◌, ltb, List, [], ◌∷◌, ◌++◌, length, take, replicate, Some, None, Option, sym, refl, ap, ◌∙◌, subst, append_assoc, append-nil, arith, length-append}
+use Rattle.std.proofs.Common.{◌≡◌, ℕ, ◌+◌, ◌<◌, ◌≤◌, Bool, true, false, not, List, [], ◌∷◌, ◌++◌, length, replicate, Some, None, sym, refl, ap, ◌∙◌, append_assoc, append-nil, arith, length-append}
 use mathlib.Core.Bool.{beq}
 use lib.ListN.{length-replicate, replicate-append-replicate}
 use Rattle.std.proofs.lemmas.Bool.{and_from, lt-ltb, true≢false}
 use Rattle.std.proofs.lemmas.List.{length-take-le, length_push}
 use Rattle.rows.specs.declared.selector.RowSelector.{RowSelector}
-use Rattle.rows.specs.Rows.{same, row_limit, run_of, run_rows, selected_in, selected_count, unlike, canonical, begins, runs_after, count_runs}
-use Rattle.rows.proofs.Counts.{runs-more, runs-front, selected-append, length_run, selected-run}
+use Rattle.rows.specs.Rows.{same, row_limit, run_of, run_rows, selected_in, selected_count, canonical, count_runs}
+use Rattle.rows.proofs.Counts.{selected-append, selected-run}
 use Rattle.rows.proofs.RunLaws.{canonical-parts}
 use Rattle.runs.specs.declared.place.Place.{Place}
-use Rattle.runs.specs.Places.{held, last_of, but_last}
+use Rattle.runs.specs.Places.{held, last_of}
 use Rattle.runs.specs.RunPlaces.{Apart}
 use Rattle.runs.specs.Sinks.{Room}
 use Rattle.runs.specs.Shown.{runs-canonical}

@@ -1,5 +1,5 @@
 -- Laws of what a sink has room for, and of rows poured into one. Assumes nothing.
-use Rattle.std.proofs.Common.{◌≡◌, ℕ, ◌+◌, ◌<◌, ◌≤◌, Bool, true, false, cond, not, ltb, List, [], ◌++◌, length, replicate, None, Ok, Err, sym, refl, ap, ◌∙◌, subst, append_assoc, append-nil, arith, length-append}
+use Rattle.std.proofs.Common.{◌≡◌, ℕ, ◌+◌, ◌<◌, ◌≤◌, Bool, true, false, cond, not, ltb, List, ◌++◌, length, replicate, None, Ok, Err, sym, refl, ap, ◌∙◌, subst, append_assoc, append-nil, arith, length-append}
 use lib.ListN.{length-replicate}
 use Rattle.rows.specs.declared.selector.RowSelector.{RowSelector}
 use Rattle.rows.specs.Rows.{row_limit, run_of, count_runs}
@@ -8,7 +8,7 @@ use Rattle.std.proofs.lemmas.Bool.{ltb-false}
 use Rattle.refusals.specs.declared.refusal.Layer.{Layer}
 use Rattle.refusals.specs.declared.fault.SelectionFault.{SelectionFault}
 use Rattle.refusals.specs.Refusals.{no, refused, verdict}
-use Rattle.runs.specs.Sinks.{Verdict, Room, priced, admitted, then_placed}
+use Rattle.runs.specs.Sinks.{Verdict, Room, admitted, then_placed}
 
 -- rows that have room have room for their first ones
 pub room-front : (cost : ℕ → ℕ → ℕ) (cap : ℕ) → ((m n p q : ℕ) → m ≤ p → n ≤ q → cost m n ≤ cost p q) → (xs ys : List Bool) → Room cost cap (xs ++ ys) → Room cost cap xs

@@ -1,6 +1,5 @@
 -- A run list without its last run. Assumes nothing.
-use Rattle.std.proofs.Common.{◌≡◌, ℕ, zero, suc, ◌+◌, ◌-◌, ◌<◌, Bool, true, false, not, List, [], ◌∷◌, ◌++◌, length, get_or, replicate, sym, refl, ap, ◌∙◌, subst, append-nil, arith, length-append}
-use lib.ListN.{length-replicate}
+use Rattle.std.proofs.Common.{◌≡◌, ℕ, zero, suc, ◌+◌, ◌<◌, Bool, true, false, not, List, [], ◌∷◌, ◌++◌, length, replicate, sym, refl, ap, ◌∙◌, subst, append-nil, arith}
 use Rattle.std.proofs.lemmas.Bool.{and_from, lt-ltb, not-true}
 use Rattle.rows.specs.declared.selector.RowSelector.{RowSelector}
 use Rattle.rows.specs.Rows.{same, run_of, run_rows, selected_count, canonical}
@@ -9,7 +8,6 @@ use Rattle.rows.proofs.Counts.{length_run}
 use Rattle.rows.proofs.Endings.{keep_some, trimmed-skips, trimmed-selected}
 use Rattle.rows.proofs.RunLaws.{canonical-parts}
 use Rattle.runs.specs.Places.{but_last}
-use Rattle.runs.proofs.PlaceLaws.{last-at, with-last}
 use Rattle.runs.proofs.RunPlaceLaws.{run_rows-push, last_some, more_rows, more-selected}
 
 canonical-front : (ks : List RowSelector) (l : RowSelector) → canonical (ks ++ l ∷ []) ≡ true → canonical ks ≡ true

@@ -1,5 +1,5 @@
 -- Raw runs: zero runs and alike neighbours among them, and any numbers.
-use Rattle.std.specs.Prelude.{ℕ, suc, ◌+◌, Bool, cond, List, [], ◌∷◌, length, nat_le, nat_lt}
+use Rattle.std.specs.Prelude.{ℕ, suc, ◌+◌, cond, List, [], ◌∷◌, length, nat_le, nat_lt}
 use Rattle.refusals.specs.declared.refusal.Layer.{Layer}
 use Rattle.refusals.specs.Refusals.{refused, selection}
 use Rattle.rows.specs.declared.selector.RowSelector.{RowSelector}

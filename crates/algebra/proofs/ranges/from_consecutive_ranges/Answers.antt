@@ -1,4 +1,4 @@
-use Rattle.std.proofs.Common.{◌≡◌, sym, ap, ◌∙◌, subst, arith}
+use Rattle.std.proofs.Common.{sym, ◌∙◌, subst, arith}
 use Rattle.rows.specs.Ranges.{InRanges}
 use Rattle.rows.proofs.RangeLaws.{in-ranges}
 use Rattle.std.proofs.lemmas.Result.{MatchResult-weaker}

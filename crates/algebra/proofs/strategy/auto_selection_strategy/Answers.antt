@@ -1,4 +1,4 @@
-use Rattle.std.proofs.Common.{◌≡◌, ◌*◌, ◌/◌, ◌<◌, ◌≤◌, length, sym, ap, subst, le-div_iff_mul-le, arith}
+use Rattle.std.proofs.Common.{◌*◌, ◌/◌, ◌<◌, ◌≤◌, length, sym, ap, subst, le-div_iff_mul-le, arith}
 use Rattle.rows.specs.Rows.{count_runs}
 use Rattle.algebra.proofs.RunCounts.{no_rows, ragged, smooth}
 use Rattle.algebra.proofs.strategy.auto_selection_strategy.Goals as goal

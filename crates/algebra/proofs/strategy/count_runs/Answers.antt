@@ -1,4 +1,4 @@
-use Rattle.std.proofs.Common.{◌≡◌, suc, not, None, ap, ◌∙◌, arith}
+use Rattle.std.proofs.Common.{not, None, ap, arith}
 use Rattle.rows.specs.Rows.{count_runs}
 use Rattle.rows.proofs.Counts.{runs-le, runs-whole}
 use Rattle.algebra.proofs.strategy.count_runs.Goals as goal

@@ -1,5 +1,4 @@
-use Rattle.std.proofs.Common.{◌≡◌, Bool, List, length, sym, ap, ◌∙◌, subst, arith}
-use Rattle.rows.specs.Rules.{skip_selected, offset}
+use Rattle.std.proofs.Common.{length, sym, ap, ◌∙◌, subst, arith}
 use Rattle.rows.specs.Said.{Offset}
 use Rattle.rows.proofs.Rules.{length-skip, offset-rows}
 use Rattle.runs.specs.Sinks.{placed}

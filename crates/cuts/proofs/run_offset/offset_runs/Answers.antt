@@ -1,7 +1,6 @@
-use Rattle.std.proofs.Common.{◌≡◌, ◌+◌, ◌-◌, ◌<◌, true, false, [], ◌++◌, length, take, drop, replicate, sym, ap, ◌∙◌, arith, length-drop, take_all}
-use Rattle.rows.specs.declared.selector.RowSelector.{RowSelector}
+use Rattle.std.proofs.Common.{◌≡◌, ◌+◌, ◌-◌, true, false, ◌++◌, length, drop, replicate, sym, ap, ◌∙◌, arith, length-drop, take_all}
 use Rattle.rows.specs.Rows.{run_rows}
-use Rattle.rows.specs.Rules.{skip_selected, offset}
+use Rattle.rows.specs.Rules.{skip_selected}
 use Rattle.rows.proofs.Rules.{length-skip}
 use Rattle.runs.specs.Sinks.{placed}
 use Rattle.cuts.proofs.Offsets.{offset-zero, offset-some, offset-none}

@@ -5,7 +5,6 @@ use Rattle.rows.specs.Said.{Trimmed}
 use Rattle.rows.proofs.Endings.{trim, trimmed-front, trimmed-limit}
 use Rattle.runs.specs.Sinks.{placed}
 use Rattle.std.proofs.lemmas.Result.{MatchResult-weaker}
-use Rattle.cuts.proofs.trim.trim.Given as given
 use Rattle.cuts.proofs.trim.trim.Goals as goal
 
 pub deliver-requires : goal.deliver-requires

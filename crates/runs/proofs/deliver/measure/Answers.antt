@@ -1,4 +1,4 @@
-use Rattle.std.proofs.Common.{◌≡◌, ◌+◌, not, length, Some, None, arith, rules}
+use Rattle.std.proofs.Common.{◌≡◌, ◌+◌, not, length, Some, None, arith}
 use Rattle.rows.specs.Rows.{begins, runs_after}
 use Rattle.rows.proofs.Counts.{piece-length, piece-runs, runs-le}
 use Rattle.runs.proofs.deliver.measure.Given as given

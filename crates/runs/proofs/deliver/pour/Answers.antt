@@ -1,4 +1,4 @@
-use Rattle.std.proofs.Common.{◌≡◌, not, ◌++◌, sym, refl, ap, ◌∙◌, subst, append-nil, arith}
+use Rattle.std.proofs.Common.{not, ◌++◌, sym, refl, ap, ◌∙◌, subst, arith}
 use Rattle.rows.specs.Rows.{run_of}
 use Rattle.rows.proofs.Counts.{piece-length}
 use Rattle.runs.specs.Sinks.{Room}

@@ -1,4 +1,4 @@
-use Rattle.std.proofs.Common.{arith, rules, false-eqb}
+use Rattle.std.proofs.Common.{rules}
 use Rattle.tokens.proofs.Cuts.{behind-first}
 use Rattle.tokens.proofs.word.behind.Goals as goal
 

@@ -1,4 +1,4 @@
-use Rattle.std.proofs.Common.{◌-◌, not, [], ◌++◌, take, replicate, sym, ap, ◌∙◌, subst, arith, take_all}
+use Rattle.std.proofs.Common.{◌-◌, not, [], ◌++◌, take, replicate, sym, ap, ◌∙◌, arith, take_all}
 use Rattle.cuts.proofs.Pieces.{part-run, not-first-part}
 use Rattle.cuts.proofs.part.PartRunSource.next_run.Goals as goal
 

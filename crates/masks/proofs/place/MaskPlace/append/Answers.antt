@@ -1,4 +1,4 @@
-use Rattle.std.proofs.Common.{◌/◌, set, refl, arith, length-set}
+use Rattle.std.proofs.Common.{◌/◌, refl, arith, length-set}
 use Rattle.bits.proofs.Words.{rows_append}
 use Rattle.masks.proofs.SpareLaws.{spare_more, keeps-more}
 use Rattle.masks.proofs.place.MaskPlace.append.Goals as goal

@@ -1,4 +1,4 @@
-use Rattle.std.proofs.Common.{◌≡◌, Bool, cond, List, [], ap, ◌∙◌, arith}
+use Rattle.std.proofs.Common.{Bool, cond, [], ap, ◌∙◌}
 use Rattle.masks.specs.Written.{written}
 use Rattle.masks.proofs.Fitting.{fits}
 use Rattle.masks.proofs.place.MaskPlace.mask.Goals as goal

@@ -1,4 +1,4 @@
-use Rattle.std.proofs.Common.{◌≡◌, ◌+◌, not, ◌++◌, length, replicate, refl, arith}
+use Rattle.std.proofs.Common.{◌≡◌, ◌+◌, not, length, replicate, refl, arith}
 use Rattle.masks.specs.Written.{written}
 use Rattle.masks.specs.Shown.{untouched-same, untouched-chain}
 use Rattle.masks.proofs.SpareLaws.{mask-room, past-limit, past_bytes, longer, all_of, none_more}

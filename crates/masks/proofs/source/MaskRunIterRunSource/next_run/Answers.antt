@@ -1,4 +1,4 @@
-use Rattle.std.proofs.Common.{◌≡◌, ◌-◌, not, ◌++◌, drop, replicate, sym, ap, ◌∙◌, subst, arith}
+use Rattle.std.proofs.Common.{◌≡◌, ◌-◌, ◌++◌, drop, replicate, sym, ap, ◌∙◌, subst, arith}
 use Rattle.rows.specs.Rows.{NotFirst}
 use Rattle.rows.proofs.Stretches.{not-not}
 use Rattle.bits.specs.Masks.{rows}

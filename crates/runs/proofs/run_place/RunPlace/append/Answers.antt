@@ -1,5 +1,5 @@
-use Rattle.std.proofs.Common.{◌≡◌, ◌+◌, ◌<◌, ◌≤◌, List, [], ◌∷◌, ◌++◌, length, sym, ap, ◌∙◌, arith}
-use Rattle.rows.specs.Rows.{run_of, run_rows, canonical, selected_count}
+use Rattle.std.proofs.Common.{◌≡◌, ◌++◌, ap, ◌∙◌, arith}
+use Rattle.rows.specs.Rows.{run_of, run_rows, canonical}
 use Rattle.rows.proofs.Counts.{selected-le}
 use Rattle.runs.specs.Places.{held}
 use Rattle.runs.proofs.RunPlaceLaws.{run_rows-push, canonical-push, more_rows, more-selected}

@@ -1,6 +1,6 @@
-use Rattle.std.proofs.Common.{◌≡◌, ◌+◌, ◌<◌, ◌≤◌, List, [], ◌∷◌, ◌++◌, length, sym, ap, ◌∙◌, arith}
+use Rattle.std.proofs.Common.{◌≡◌, ◌+◌, [], ◌∷◌, ◌++◌, ap, ◌∙◌, arith}
 use Rattle.rows.specs.declared.selector.RowSelector.{RowSelector}
-use Rattle.rows.specs.Rows.{run_of, run_rows, canonical, selected_count}
+use Rattle.rows.specs.Rows.{run_of, run_rows, canonical}
 use Rattle.rows.proofs.Counts.{selected-le}
 use Rattle.runs.specs.Places.{held, but_last}
 use Rattle.runs.proofs.PlaceLaws.{with-last, some-last, replaced}

@@ -1,7 +1,6 @@
 use Rattle.std.proofs.Common.{◌≡◌, ◌-◌, ◌<◌, false, List, ◌∷◌, length, get_or, take, drop, ap, arith, rules}
 use Rattle.std.proofs.lemmas.List.{nil_from_length}
 use Rattle.rows.specs.declared.selector.RowSelector.{RowSelector}
-use Rattle.runs.specs.declared.run_list.RunList.{RunList}
 use Rattle.rows.specs.Rows.{run_rows}
 use Rattle.rows.proofs.RunLaws.{first_rest, rest-rows, rest-length, rest-selected, rest-canonical}
 use Rattle.runs.proofs.run_source.RunListRunSource.next_run.Goals as goal
