@@ -1,5 +1,5 @@
 -- A trip narrowed by its two filters. Assumes nothing.
-use Rattle.std.proofs.Common.{◌≡◌, Bool, List, map, IfOk, vec_items, Result, sym, ap, ◌∙◌, subst, ap₂}
+use Rattle.std.proofs.Common.{◌≡◌, Bool, List, map, IfOk, vec_items, Result, ap, ◌∙◌, subst, ap₂}
 use Rattle.rows.specs.Rules.{and_then}
 use Rattle.survey.specs.declared.shot.Shot.{Shot}
 use Rattle.survey.specs.Filters.{passes, passes_both, picked}

@@ -1,4 +1,4 @@
-use Rattle.std.proofs.Common.{◌≡◌, ◌+◌, ◌-◌, Bool, not, List, ◌++◌, length, take, drop, replicate, vec_items, sym, ap, ◌∙◌, append-nil, arith}
+use Rattle.std.proofs.Common.{◌≡◌, ◌+◌, ◌-◌, not, List, ◌++◌, length, take, drop, replicate, vec_items, sym, ap, ◌∙◌, append-nil, arith}
 use Rattle.rows.proofs.Counts.{piece-length}
 use Rattle.survey.specs.declared.shot.Shot.{Shot}
 use Rattle.survey.specs.Filters.{picked}

@@ -1,4 +1,4 @@
-use Rattle.std.proofs.Common.{◌≡◌, [], ◌∷◌, ◌++◌, map, get_or, take, vec_items, sym, ap, ◌∙◌, ap₂, arith, take_all}
+use Rattle.std.proofs.Common.{[], ◌∷◌, ◌++◌, map, get_or, take, vec_items, sym, ap, ◌∙◌, ap₂, arith, take_all}
 use mathlib.Core.List.{map-append}
 use Rattle.std.proofs.lemmas.List.{take_more}
 use Rattle.trip.specs.Narrowed.{fetched}
