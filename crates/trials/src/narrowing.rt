@@ -51,7 +51,7 @@ fn the_second_is_read_by_rank(rt: HostRuntime) {
         RowSelector::skip(1),
         RowSelector::select(2),
     ];
-    assert!(rt; out.list().runs() == &wanted);
+    assert!(rt; out.list().runs() == wanted.as_slice());
 }
 
 #[test]
@@ -92,7 +92,7 @@ fn trailing_skips_are_kept(rt: HostRuntime) {
         told(and_then(MaskRunIter::new(zeros), MaskRunIter::new(none), &mut out)),
         (0, 0, "done")
     );
-    assert!(rt; out.list().runs() == &[RowSelector::skip(3)]);
+    assert!(rt; out.list().runs() == [RowSelector::skip(3)].as_slice());
     assert_eq!(rt;
         told(and_then(MaskRunIter::new(none), MaskRunIter::new(none), &mut out)),
         (0, 0, "done")

@@ -2,7 +2,7 @@
 use crate::told::told;
 use bits::mask::Mask;
 use masks::iter::MaskRunIter;
-use pages::page::{ByteRange, PageLocation, RowRange, RowRangeDebug, RowRangePartialEq};
+use pages::page::{ByteRange, PageLocation, RowRange};
 use pages::scan::{row_ranges_for_selected_pages, scan_ranges};
 use refusals::fault::SelectionFault;
 

@@ -120,6 +120,6 @@ fn runs_become_a_mask_and_runs_again(rt: HostRuntime) {
         told(convert(MaskRunIter::new(mask.mask()), &mut back)),
         (0, 0, "done")
     );
-    assert!(rt; back.list().runs() == &raw);
+    assert!(rt; back.list().runs() == raw.as_slice());
     assert_eq!(rt; (bytes[0], bytes[1]), (0xdc, 0xff));
 }

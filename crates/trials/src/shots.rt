@@ -47,11 +47,12 @@ fn a_filter_judges_each_shot_in_order(rt: HostRuntime) -> Result<(), Fail> {
     let runs = judge(rt.alloc(), legs, &[shot(2, 0), shot(0, 0), shot(3, 0)])?;
     assert!(rt;
         runs.as_slice()
-            == &[
+            == [
                 RowSelector::select(1),
                 RowSelector::skip(1),
                 RowSelector::select(1),
             ]
+            .as_slice()
     );
     Ok(())
 }
