@@ -50,9 +50,9 @@ Covers ps rows choice = (r : ℕ) → Selected rows r → (k : ℕ) × (choice k
 
 -- the ranges are those of the fewest pages that together hold every selected row: each page fetched holds one,
 -- all selected rows lie in pages fetched, and no other choice of pages that holds them all can do without any of these
-pub record FewestPages {X : Type 0} (ps : List PageLocation) (rows : List Bool) (rangeAt : ℕ → X) (ranges : List X) : Type 0 where
+pub record FewestPages {X : Type 0} (ps : List PageLocation) (rows : List Bool) (range_at : ℕ → X) (ranges : List X) : Type 0 where
   pub fetched : List ℕ
-  pub ranges_are : ranges ≡ map rangeAt fetched
+  pub ranges_are : ranges ≡ map range_at fetched
   pub in_order : Ascending fetched
   pub each_holds : (k : ℕ) → In k fetched → (r : ℕ) × (Selected rows r × Holds ps k r)
   pub all_held : Covers ps rows (λ k. In k fetched)

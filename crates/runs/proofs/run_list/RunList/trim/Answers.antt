@@ -8,11 +8,11 @@ use Rattle.runs.proofs.PlaceLaws.{last-at, with-last}
 use Rattle.runs.proofs.TrimLaws.{front-canonical, front_length, front-count, front-trimmed, selected-trimmed}
 use Rattle.runs.proofs.run_list.RunList.trim.Goals as goal
 
-abbrev lastRun : List RowSelector → RowSelector
-lastRun xs = get_or xs (length xs - 1) (record { row_count = 0; skip = false })
+abbrev last_run : List RowSelector → RowSelector
+last_run xs = get_or xs (length xs - 1) (record { row_count = 0; skip = false })
 
-cut : (xs : List RowSelector) → 0 < length xs → xs ≡ but_last xs ++ lastRun xs ∷ []
-cut xs h = with-last xs (lastRun xs) (last-at xs _ h)
+cut : (xs : List RowSelector) → 0 < length xs → xs ≡ but_last xs ++ last_run xs ∷ []
+cut xs h = with-last xs (last_run xs) (last-at xs _ h)
 
 pub returns-in_default : goal.returns-in_default
 returns-in_default c =
@@ -23,22 +23,22 @@ pub returns-then-not-last : goal.returns-then-not-last
 returns-then-not-last c =
     let s = c.args.self in
     let xs = s.runs.now in
-    selected-trimmed xs (lastRun xs) s.whole (cut xs (search rules)) c.if-not-last.true
+    selected-trimmed xs (last_run xs) s.whole (cut xs (search rules)) c.if-not-last.true
 
 pub overflow_sub-result : goal.overflow_sub-result
 overflow_sub-result c =
     let s = c.args.self in
     let xs = s.runs.now in
-    omega (arith, s.counted, front_length xs (lastRun xs) s.whole (cut xs (search rules)))
+    omega (arith, s.counted, front_length xs (last_run xs) s.whole (cut xs (search rules)))
 
 pub invariant_of-result : goal.invariant_of-result
 invariant_of-result c =
     let s = c.args.self in
     let xs = s.runs.now in
     let e = cut xs (search rules) in record {
-      whole = front-canonical xs (lastRun xs) s.whole e;
-      counted = omega (arith, s.counted, front_length xs (lastRun xs) s.whole e);
-      chosen = s.chosen ∙ front-count xs (lastRun xs) s.whole e c.if-not-last.false;
+      whole = front-canonical xs (last_run xs) s.whole e;
+      counted = omega (arith, s.counted, front_length xs (last_run xs) s.whole e);
+      chosen = s.chosen ∙ front-count xs (last_run xs) s.whole e c.if-not-last.false;
       within = omega (arith, s.within);
     }
 
@@ -46,4 +46,4 @@ pub returns : goal.returns
 returns c =
     let s = c.args.self in
     let xs = s.runs.now in
-    front-trimmed xs (lastRun xs) s.whole (cut xs (search rules)) c.if-not-last.false
+    front-trimmed xs (last_run xs) s.whole (cut xs (search rules)) c.if-not-last.false
