@@ -6,7 +6,7 @@ mod digest;
 mod fill;
 mod make;
 mod obey;
-mod pages;
+mod page_ranges;
 mod slots;
 mod tell;
 mod write;

@@ -13,7 +13,7 @@ use std::alloc::{AllocError, Global};
 use stored::bytes::StoredMask;
 use stored::held::Stored;
 use stored::perform::Trouble;
-use stored::runs::StoredRuns;
+use stored::stored_runs::StoredRuns;
 
 // What was made, into its slot; trimmed only where a trim made it.
 pub(crate) fn put(

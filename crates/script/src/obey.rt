@@ -2,7 +2,7 @@
 use crate::answer::{Outcome, Stop};
 use crate::fill::{fill_mask, fill_runs};
 use crate::make::{make_mask, make_ranges, make_runs};
-use crate::pages::{tell_page_rows, tell_scan};
+use crate::page_ranges::{tell_page_rows, tell_scan};
 use crate::slots::Slots;
 use crate::tell::tell;
 use crate::write::{copy, cut, pair, split};

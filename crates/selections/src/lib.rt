@@ -2,7 +2,7 @@
 #![tactic(auto)]
 
 pub mod both;
-pub mod cuts;
+pub mod cutting;
 pub mod form;
 pub mod reads;
 pub mod source;

@@ -1,6 +1,6 @@
 // A selection that owns its memory, in one form or the other.
 use crate::bytes::StoredMask;
-use crate::runs::StoredRuns;
+use crate::stored_runs::StoredRuns;
 
 #[derive(Drop)]
 pub enum Stored {

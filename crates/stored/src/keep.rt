@@ -5,7 +5,7 @@ ghost use Rattle.rows.specs.Rows.{run_rows};
 use crate::bytes::StoredMask;
 use crate::held::Stored;
 use crate::perform::Trouble;
-use crate::runs::StoredRuns;
+use crate::stored_runs::StoredRuns;
 use runs::run_list::RunList;
 use runs::source::CountedSource;
 use selections::form::RowSelection;

@@ -6,5 +6,5 @@ pub mod held;
 pub mod keep;
 pub mod operation;
 pub mod perform;
-pub mod runs;
 pub mod split;
+pub mod stored_runs;

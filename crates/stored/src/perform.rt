@@ -2,7 +2,7 @@
 use crate::bytes::StoredMask;
 use crate::held::Stored;
 use crate::operation::Operation;
-use crate::runs::StoredRuns;
+use crate::stored_runs::StoredRuns;
 use masks::place::MaskPlace;
 use refusals::fault::{BitsFault, SelectionFault};
 use rows::selector::RowSelector;

@@ -3,7 +3,7 @@ use crate::bytes::StoredMask;
 use crate::held::Stored;
 use crate::operation::Convert;
 use crate::perform::{Room, Trouble, bytes_needed, runs_needed};
-use crate::runs::StoredRuns;
+use crate::stored_runs::StoredRuns;
 use masks::place::MaskPlace;
 use rows::selector::RowSelector;
 use runs::run_place::RunPlace;

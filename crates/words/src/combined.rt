@@ -3,8 +3,8 @@ ghost use Rattle.rows.specs.Rules.{combine};
 ghost use Rattle.bits.specs.Masks.{rows as rows_of_mask};
 ghost use Rattle.words.specs.Shown.{few-combined};
 
-use crate::rows::WordRows;
 use crate::splice::splice;
+use crate::word_rows::WordRows;
 use bits::mask::Mask;
 use policies::policy::Policy;
 

@@ -5,8 +5,8 @@ ghost use Rattle.runs.specs.Sinks.{joins};
 ghost use Rattle.bits.specs.Masks.{rows as rows_of_mask};
 
 use crate::joined::Joined;
-use crate::rows::WordRows;
 use crate::sink::WordSink;
+use crate::word_rows::WordRows;
 use bits::mask::Mask;
 use refusals::fault::SelectionFault;
 use rows::limit::ROW_LIMIT;

@@ -4,8 +4,8 @@ ghost use Rattle.rows.specs.Rows.{row_limit};
 ghost use Rattle.bits.specs.Masks.{rows as rows_of_mask};
 ghost use Rattle.words.specs.Shown.{few-joined};
 
-use crate::rows::WordRows;
 use crate::splice::splice;
+use crate::word_rows::WordRows;
 use bits::mask::Mask;
 
 // The rows of the first, then those of the second; together they are within the row limit.

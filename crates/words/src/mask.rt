@@ -2,7 +2,7 @@
 ghost use Rattle.bits.specs.Masks.{rows as rows_of_mask};
 ghost use Rattle.words.specs.Shown.{few-rows};
 
-use crate::rows::WordRows;
+use crate::word_rows::WordRows;
 use bits::mask::Mask;
 
 impl<'a> WordRows for Mask<'a> {

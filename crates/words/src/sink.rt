@@ -3,8 +3,8 @@ ghost use Rattle.std.specs.Prelude.{◌≡◌, MatchResult};
 ghost use Rattle.refusals.specs.Refusals.{verdict};
 ghost use Rattle.runs.specs.Sinks.{placed};
 
-use crate::rows::WordRows;
-use crate::runs::WordRuns;
+use crate::word_rows::WordRows;
+use crate::word_runs::WordRuns;
 use masks::place::MaskPlace;
 use refusals::fault::SelectionFault;
 use runs::deliver::{deliver, fits};

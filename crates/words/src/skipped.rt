@@ -3,8 +3,8 @@ ghost use Rattle.bits.specs.Masks.{rows as rows_of_mask};
 ghost use Rattle.words.specs.Fronts.{skip_front};
 ghost use Rattle.words.specs.Shown.{few-skipped};
 
-use crate::rows::WordRows;
 use crate::splice::splice;
+use crate::word_rows::WordRows;
 use bits::mask::Mask;
 
 // The mask's rows, of which those before row `cut` are skipped instead.

@@ -1,7 +1,7 @@
 // Rows that are read by words, run by run.
 ghost use Rattle.std.specs.Prelude.{drop};
 
-use crate::rows::WordRows;
+use crate::word_rows::WordRows;
 use bits::word::same_bits;
 use rows::selector::RowSelector;
 use runs::pieces::Pieces;

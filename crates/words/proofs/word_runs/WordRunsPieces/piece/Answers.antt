@@ -2,7 +2,7 @@ use Rattle.std.proofs.Common.{◌+◌, ◌%◌, eqb, ◌++◌, drop, replicate, 
 use Rattle.std.proofs.lemmas.List.{drop_all}
 use Rattle.rows.proofs.Stretches.{not-not}
 use Rattle.words.proofs.WordLaws.{word-leads, some-lead}
-use Rattle.words.proofs.runs.WordRunsPieces.piece.Goals as goal
+use Rattle.words.proofs.word_runs.WordRunsPieces.piece.Goals as goal
 
 pub returns-then-left-eq0 : goal.returns-then-left-eq0
 returns-then-left-eq0 g c =
