@@ -1,4 +1,4 @@
-// One of two sources, by a tag: a struct, since an enum cannot hold a reference beside a struct with a ghost field.
+// One of two sources, by a tag.
 ghost use Rattle.std.specs.Prelude.{◌≡◌};
 ghost use Rattle.runs.specs.EitherRows.{either_rows};
 ghost use Rattle.runs.specs.Shown.{few-either};

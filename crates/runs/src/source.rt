@@ -10,7 +10,7 @@ pub trait RunSource: Copy {
     // the rows still to come
     ghost rows: { Self → List Bool };
 
-    // a proof, and no law, since an impl with a lifetime takes no law
+    // no more rows than the limit: a proof that each impl gives
     ghost within: { (s : Self) → length (rows s) ≤ row_limit };
 
     // The whole leading run of equal rows, which is removed; none exactly when no row is left.

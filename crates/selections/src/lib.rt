@@ -1,4 +1,4 @@
-// Selections as runs or as a mask, with every operation, and the states that they go through before they are read.
+// Selections as runs or as a mask, with the operations on them, and the states that they go through before they are read.
 #![tactic(auto)]
 
 pub mod both;

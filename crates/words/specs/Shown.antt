@@ -1,4 +1,4 @@
--- Proofs that the ghost members of this crate hold: they stand here, since a source file cites only its crate's specs. Assumes nothing.
+-- Proofs that the ghost members of this crate hold, for its source files to cite. Assumes nothing.
 use Rattle.std.specs.Prelude.{◌≡◌, ℕ, zero, suc, ◌+◌, ◌≤◌, Bool, List, [], ◌∷◌, ◌++◌, length, refl}
 use Rattle.std.proofs.Common.{ap, arith, length-append}
 use Rattle.rows.specs.Rows.{row_limit}

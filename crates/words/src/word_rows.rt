@@ -7,7 +7,7 @@ ghost use Rattle.bits.specs.Bits.{bit_at};
 pub trait WordRows: Copy {
     ghost rows: { Self → List Bool };
 
-    // a proof, and no law, since an impl with a lifetime takes no law
+    // no more rows than the limit: a proof that each impl gives
     ghost within: { (s : Self) → length (rows s) ≤ row_limit };
 
     // How many rows there are.
