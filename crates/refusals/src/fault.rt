@@ -4,7 +4,7 @@ ghost use Rattle.refusals.specs.declared.fault.ReaderFault.TheVariants.{Selectio
 ghost use Rattle.refusals.specs.declared.fault.SelectionFault.TheVariants.{Bits};
 
 // A fault of the layer that reads and writes bits. Each holds the place that is told.
-#[derive(Clone, Copy)]
+#[derive(Clone, Copy, PartialEq, Eq, Debug)]
 pub enum BitsFault {
     // A mask runs past its bytes, or a chunk past its mask.
     PastBytes(usize),
@@ -13,7 +13,7 @@ pub enum BitsFault {
 }
 
 // A fault of the layer of selections.
-#[derive(Clone, Copy)]
+#[derive(Clone, Copy, PartialEq, Eq, Debug)]
 pub enum SelectionFault {
     Bits(BitsFault),
     // A length or a given total passes the row limit.
@@ -33,7 +33,7 @@ pub enum SelectionFault {
 }
 
 // A fault of the layer of readers.
-#[derive(Clone, Copy)]
+#[derive(Clone, Copy, PartialEq, Eq, Debug)]
 pub enum ReaderFault {
     Selection(SelectionFault),
     // The batch size is 0.

@@ -2,9 +2,8 @@
 use Rattle.std.proofs.Common.{◌≡◌, ℕ, zero, suc, ◌+◌, ◌-◌, ◌<◌, ◌≤◌, Bool, true, false, cond, ◌||◌, ltb, leb, ◌⊎◌, List, [], ◌∷◌, ◌++◌, length, replicate, Some, None, sym, refl, ap, ◌∙◌, subst, inl, inr, arith}
 use lib.ListN.{length-replicate}
 use Rattle.std.proofs.lemmas.Bool.{cases_lt, cases_Bool, ltb-false, eqb-true, or_parts, or_from, or_left, and_from, and_left, and_right, lt-ltb, le-ltb, le-leb, lt-leb, cond-true, cond-false}
-use Rattle.rows.specs.declared.range.RowRange.{RowRange}
 use Rattle.rows.specs.Said.{Selects}
-use Rattle.rows.specs.Ranges.{is_void, is_bad, bad_range, range_rows, holds, any_holds, InRanges}
+use Rattle.rows.specs.Ranges.{RowRange, is_void, is_bad, bad_range, range_rows, holds, any_holds, InRanges}
 use Rattle.rows.proofs.Counts.{length_run}
 use Rattle.rows.proofs.Stretches.{stretch-row, past-stretch}
 

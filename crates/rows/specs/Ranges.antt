@@ -1,7 +1,11 @@
 -- Consecutive ranges of a total: which lists of ranges are accepted, and which rows they select.
 use Rattle.std.specs.Prelude.{◌≡◌, ℕ, suc, ◌-◌, Bool, true, false, cond, ◌&&◌, ◌||◌, List, [], ◌∷◌, ◌++◌, length, replicate, Some, None, Option, ◌==◌, nat_le, nat_lt}
-use Rattle.rows.specs.declared.range.RowRange.{RowRange}
+use Rattle.rows.specs.declared.range.Span.{Span}
 use Rattle.rows.specs.Said.{Selects}
+
+-- rows from the start on, before the end
+abbrev pub RowRange : Type 0
+RowRange = Span ℕ
 
 -- a range with no row, which is ignored wherever it stands
 abbrev pub is_void : RowRange → Bool

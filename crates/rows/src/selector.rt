@@ -2,6 +2,8 @@
 ghost use Rattle.std.specs.Prelude.{◌≡◌, true, false, replicate};
 ghost use Rattle.rows.specs.Rows.{run_of, selected_in};
 
+use std::fmt;
+
 // A run of rows, all selected or all skipped.
 #[derive(Clone, Copy, PartialEq, Eq, Debug)]
 pub struct RowSelector {
@@ -35,5 +37,13 @@ impl RowSelector {
         ensures { result ≡ selected_in self }
     {
         if self.skip { 0 } else { self.row_count }
+    }
+}
+
+// A plus sign where its rows are selected, a minus sign where they are skipped, and their number.
+impl fmt::Display for RowSelector {
+    fn fmt<W: fmt::Write>(&self, f: &mut fmt::Formatter<W>) -> fmt::Result {
+        let mark = if self.skip { '-' } else { '+' };
+        write!(f, "{mark}{}", self.row_count)
     }
 }
