@@ -8,7 +8,9 @@ use Rattle.rows.specs.declared.selector.RowSelector.{RowSelector}
 use Rattle.rows.specs.Rows.{same, row_limit, run_of, run_rows, selected_in, selected_count, canonical, count_runs}
 use Rattle.rows.proofs.Counts.{selected-append, selected-run}
 use Rattle.rows.proofs.RunLaws.{canonical-parts}
+use Rattle.runs.specs.declared.counts.RowCounts.{RowCounts}
 use Rattle.runs.specs.declared.place.Place.{Place}
+use Rattle.runs.specs.Counted.{IsRunList}
 use Rattle.runs.specs.Places.{held, last_of}
 use Rattle.runs.specs.RunPlaces.{Apart}
 use Rattle.runs.specs.Sinks.{Room}
@@ -94,11 +96,11 @@ more-selected xs ys r e =
     ap selected_count e ∙ selected-append xs (run_of r) ∙ ap (λ k. selected_count xs + k) (ap selected_count (sym (append-nil (run_of r))) ∙ selected-run r.row_count r.skip [] ∙ omega arith)
 
 -- a place of runs has room for what it holds
-pub place-room : (s : Place RowSelector) (all : ℕ) → s.len ≤ length s.slots.now → canonical (held s) ≡ true → all ≡ length (run_rows (held s)) → all ≤ row_limit → Room (λ _ k. k) (length s.slots.now) (run_rows (held s))
-place-room s all i w c h = (omega arith, omega (arith, runs-canonical (held s) w, length-take-le s.len s.slots.now i))
+pub place-room : (s : Place RowSelector) (n : RowCounts) → IsRunList (held s) n → Room (λ _ k. k) (length s.slots.now) (run_rows (held s))
+place-room s n w = (omega arith, omega (arith, runs-canonical (held s) w.whole, length-take-le s.len s.slots.now s.inside))
 
 -- and none for one whole run more where it is full
-pub no_slot : (s : Place RowSelector) (r : RowSelector) → s.len ≤ length s.slots.now → canonical (held s) ≡ true → Apart (held s) r.skip → 0 < r.row_count → length s.slots.now ≤ s.len → Room (λ _ k. k) (length s.slots.now) (run_rows (held s) ++ run_of r) → ⊥
-no_slot s r i w u h full room =
+pub no_slot : (s : Place RowSelector) (r : RowSelector) → canonical (held s) ≡ true → Apart (held s) r.skip → 0 < r.row_count → length s.slots.now ≤ s.len → Room (λ _ k. k) (length s.slots.now) (run_rows (held s) ++ run_of r) → ⊥
+no_slot s r w u h full room =
     let ks = held s in
-    omega (arith, room.1, runs-canonical (ks ++ r ∷ []) (canonical-push ks r w u h), ap count_runs (run_rows-push ks r), length_push ks r, length-take-le s.len s.slots.now i)
+    omega (arith, room.1, runs-canonical (ks ++ r ∷ []) (canonical-push ks r w u h), ap count_runs (run_rows-push ks r), length_push ks r, length-take-le s.len s.slots.now s.inside)

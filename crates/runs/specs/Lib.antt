@@ -2,7 +2,7 @@ pub mod Places
 pub mod Steps
 pub mod Sinks
 pub mod HeldRows
-pub mod EitherRows
+pub mod Counted
 pub mod RunPlaces
 pub mod RawRuns
 pub mod Shown

@@ -1,5 +1,5 @@
 -- Proofs that the ghost members of this crate hold, for its source files to cite. Assumes nothing.
-use Rattle.std.specs.Prelude.{◌≡◌, ℕ, ◌+◌, ◌-◌, ◌≤◌, Bool, true, false, cond, not, List, [], ◌∷◌, ◌++◌, length, drop, Some, None, refl}
+use Rattle.std.specs.Prelude.{◌≡◌, ℕ, ◌+◌, ◌-◌, ◌≤◌, Bool, true, false, not, List, [], ◌∷◌, ◌++◌, length, drop, Some, None, refl}
 use Rattle.std.proofs.Common.{sym, ap, ◌∙◌, arith}
 use Rattle.std.proofs.lemmas.List.{length-take-le, drop-drop}
 use Rattle.std.proofs.lemmas.Bool.{true≢false}
@@ -7,17 +7,22 @@ use Rattle.rows.specs.declared.selector.RowSelector.{RowSelector}
 use Rattle.rows.specs.Rows.{same, row_limit, run_rows, unlike, canonical, begins, runs_after, count_runs}
 use Rattle.rows.proofs.Counts.{runs-more, runs-front}
 use Rattle.rows.proofs.RunLaws.{canonical-parts}
+use Rattle.either.specs.declared.Either.{Either}
+use Rattle.either.specs.declared.Either.TheVariants.{Left, Right}
+use Rattle.either.specs.Either.{either}
+use Rattle.runs.specs.declared.counts.RowCounts.{RowCounts}
 use Rattle.runs.specs.declared.place.Place.{Place}
+use Rattle.runs.specs.Counted.{IsRunList}
 use Rattle.runs.specs.Places.{held, Untouched}
 
 -- a run list is within the row limit
-pub few-rows : (n : ℕ) (rs : List RowSelector) → n ≡ length (run_rows rs) → n ≤ row_limit → length (run_rows rs) ≤ row_limit
-few-rows n rs e h = omega arith
+pub few-rows : (rs : List RowSelector) (n : RowCounts) → IsRunList rs n → length (run_rows rs) ≤ row_limit
+few-rows rs n h = omega arith
 
 -- so is one of two that are
-pub few-either : (b : Bool) (xs ys : List Bool) → length xs ≤ row_limit → length ys ≤ row_limit → length (cond b xs ys) ≤ row_limit
-few-either true xs ys h k = h
-few-either false xs ys h k = k
+pub few-either : {A B : Type 0} (f : A → List Bool) (g : B → List Bool) → ((a : A) → length (f a) ≤ row_limit) → ((b : B) → length (g b) ≤ row_limit) → (s : Either A B) → length (either f g s) ≤ row_limit
+few-either f g h k (Left a) = h a
+few-either f g h k (Right b) = k b
 
 pub untouched-same : {X : Type 0} (s : Place X) → Untouched s s
 untouched-same s = (refl, refl, refl)
@@ -52,6 +57,10 @@ runs-canonical (k ∷ ks) w =
     omega (arith, runs-more None k.row_count (not k.skip) (run_rows ks) parts.0, runs_on k.skip ks parts.1 parts.2)
 
 -- more rows, no fewer runs
-pub longer-list : (s t : Place RowSelector) → s.len ≤ length s.slots.now → t.len ≤ length t.slots.now → canonical (held s) ≡ true → canonical (held t) ≡ true → (more : List Bool) → run_rows (held t) ≡ run_rows (held s) ++ more → s.len ≤ t.len
-longer-list s t i j w v more e =
-    omega (arith, runs-canonical (held s) w, runs-canonical (held t) v, length-take-le s.len s.slots.now i, length-take-le t.len t.slots.now j, runs-front None (run_rows (held s)) more, ap count_runs e)
+longer-list : (s t : Place RowSelector) (m n : RowCounts) → IsRunList (held s) m → IsRunList (held t) n → (more : List Bool) → run_rows (held t) ≡ run_rows (held s) ++ more → s.len ≤ t.len
+longer-list s t m n w v more e =
+    omega (arith, runs-canonical (held s) w.whole, runs-canonical (held t) v.whole, length-take-le s.len s.slots.now s.inside, length-take-le t.len t.slots.now t.inside, runs-front None (run_rows (held s)) more, ap count_runs e)
+
+-- what two steps of a place of runs keep
+pub place-chain : (s t u : Place RowSelector) (m n : RowCounts) → IsRunList (held t) m → IsRunList (held u) n → (more : List Bool) → run_rows (held u) ≡ run_rows (held t) ++ more → Untouched s t → Untouched t u → Untouched s u
+place-chain s t u m n w v more grows = untouched-chain s t u (longer-list t u m n w v more grows)

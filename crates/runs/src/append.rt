@@ -2,7 +2,7 @@
 ghost use Rattle.std.specs.Prelude.{◌≡◌, [], length};
 ghost use Rattle.runs.specs.Places.{held, last_of, Untouched, Pushed, Replaced};
 
-use crate::place::Place;
+use crate::place::{Full, Place};
 
 impl<'a, T: Copy> Place<'a, T> {
     // An empty list over the slots.
@@ -17,10 +17,7 @@ impl<'a, T: Copy> Place<'a, T> {
     pub fn items(&self) -> &[T]
         ensures { result.now ≡ held self.now }
     {
-        if self.len > self.slots.len() {
-            return &*self.slots;
-        }
-        &self.slots[0..self.len]
+        &self.slots[..self.len]
     }
 
     // How many items there is memory for.
@@ -34,37 +31,31 @@ impl<'a, T: Copy> Place<'a, T> {
     pub fn last(&self) -> Option<T>
         ensures { result ≡ last_of (held self.now) }
     {
-        let [.., last] = self.items() else {
-            return None;
-        };
-        Some(*last)
+        self.items().last().copied()
     }
 
-    // One item more, or false where the memory is full.
-    pub fn push(&mut self, x: T) -> bool
+    // One item more, where the memory is not full.
+    pub fn push(&mut self, x: T) -> Result<(), Full>
         ensures pushed { Pushed self.old x result self.new }
         ensures rest { Untouched self.old self.new }
     {
         let at = self.len;
-        if at >= self.slots.len() {
-            return false;
+        if at == self.slots.len() {
+            return Err(Full);
         }
         self.slots[at] = x;
         self.len = at + 1;
-        true
+        Ok(())
     }
 
-    // Another item in the last one's place, or false where there is none.
-    pub fn replace_last(&mut self, x: T) -> bool
+    // Another item in the last one's place, which is given back; none where there is none.
+    pub fn replace_last(&mut self, x: T) -> Option<T>
         ensures replaced { Replaced self.old x result self.new }
         ensures rest { Untouched self.old self.new }
     {
-        let n = self.len;
-        if n == 0 || n > self.slots.len() {
-            return false;
-        }
-        self.slots[n - 1] = x;
-        true
+        let last = self.last()?;
+        self.slots[self.len - 1] = x;
+        Some(last)
     }
 
     // No items any more.

@@ -6,6 +6,7 @@ ghost use Rattle.runs.specs.Steps.{Ready};
 use crate::source::RunSource;
 use rows::selector::RowSelector;
 
+// A run of no rows stands for no run begun.
 #[derive(Clone, Copy)]
 pub struct Held<S> {
     pub source: S,
@@ -15,7 +16,7 @@ pub struct Held<S> {
 impl<S: RunSource> Held<S> {
     // The source with no run begun.
     pub fn new(source: S) -> Held<S>
-        ensures { held_rows S.RunSource.rows result ≡ S.RunSource.rows source }
+        ensures { held_rows S.rows result ≡ S.rows source }
     {
         Held {
             source,
@@ -26,25 +27,21 @@ impl<S: RunSource> Held<S> {
         }
     }
 
-    // Whether a row is left; then the run begun has one.
-    pub fn fill(&mut self) -> bool
-        ensures same { held_rows S.RunSource.rows self.new ≡ held_rows S.RunSource.rows self.old }
-        ensures some { Ready result self.new.run (held_rows S.RunSource.rows self.new) }
+    // What is left of the run begun, or the source's next run, which is then begun; none exactly when no row is left.
+    pub fn peek(&mut self) -> Option<RowSelector>
+        ensures same { held_rows S.rows self.new ≡ held_rows S.rows self.old }
+        ensures begun { Ready result self.new.run (held_rows S.rows self.new) }
     {
-        if self.run.row_count > 0 {
-            return true;
+        if self.run.row_count == 0 {
+            self.run = self.source.next_run()?;
         }
-        let Some(run) = self.source.next_run() else {
-            return false;
-        };
-        self.run = run;
-        true
+        Some(self.run)
     }
 
     // Removes the first n rows of the run begun.
     pub fn take(&mut self, n: usize)
         requires { n ≤ self.old.run.row_count }
-        ensures { replicate n (not self.old.run.skip) ++ held_rows S.RunSource.rows self.new ≡ held_rows S.RunSource.rows self.old }
+        ensures { replicate n (not self.old.run.skip) ++ held_rows S.rows self.new ≡ held_rows S.rows self.old }
     {
         self.run.row_count -= n;
     }

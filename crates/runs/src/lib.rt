@@ -3,8 +3,9 @@
 
 pub mod append;
 pub mod convert;
+pub mod counts;
 pub mod deliver;
-pub mod either;
+pub mod either_source;
 pub mod held;
 pub mod pieces;
 pub mod place;

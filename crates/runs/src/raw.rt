@@ -1,8 +1,8 @@
 // Raw runs made into whole ones: zero runs are dropped, and alike neighbours joined.
-ghost use Rattle.std.specs.Prelude.{◌≡◌, MatchResult};
-ghost use Rattle.refusals.specs.Refusals.{verdict};
+ghost use Rattle.std.specs.Prelude.{◌≡◌};
 ghost use Rattle.rows.specs.Rows.{run_rows};
 ghost use Rattle.runs.specs.RawRuns.{fitting, collected};
+ghost use Rattle.runs.specs.Sinks.{Writes};
 
 use crate::deliver::deliver;
 use crate::pieces::Pieces;
@@ -44,7 +44,7 @@ impl<'a> Pieces for RawRuns<'a> {
 fn within_limit(raw: &[RowSelector]) -> usize
     ensures { result ≡ fitting 0 raw.now }
 {
-    let mut all: usize = 0;
+    let mut all = 0;
     for (i, run) in raw.iter().enumerate() {
         if ROW_LIMIT - all < run.row_count {
             return i;
@@ -56,9 +56,7 @@ fn within_limit(raw: &[RowSelector]) -> usize
 
 // The rows of raw runs in a sink; refused by 1 at the run that passes the row limit, then by 12.
 pub fn collect_runs<K: RowSink>(raw: &[RowSelector], out: &mut K) -> Result<(), SelectionFault>
-    ensures verdict { verdict result ≡ collected K.RowSink.layer K.RowSink.cost (K.RowSink.capacity out.old) raw.now }
-    ensures written { MatchResult result (λ _. K.RowSink.rows out.new ≡ run_rows raw.now) (λ _. out.new ≡ out.old) }
-    ensures rest { K.RowSink.keeps out.old out.new }
+    ensures { Writes K.sink out.old (collected K.sink out.old raw.now) (run_rows raw.now) result out.new }
 {
     let n = within_limit(raw);
     if n < raw.len() {

@@ -1,20 +1,18 @@
 // A run list over runs that are lent.
-ghost use Rattle.std.specs.Prelude.{◌≡◌, ◌≤◌, true, [], length};
-ghost use Rattle.rows.specs.Rows.{row_limit, run_rows, selected_count, canonical};
+ghost use Rattle.std.specs.Prelude.{◌≡◌, true, []};
+ghost use Rattle.rows.specs.Rows.{run_rows, canonical};
 ghost use Rattle.rows.specs.Rules.{trimmed};
+ghost use Rattle.runs.specs.Counted.{IsRunList};
 
+use crate::counts::RowCounts;
 use rows::selector::RowSelector;
 
 // No run of zero rows, no two neighbours alike, at most the row limit; with the numbers of rows and selected rows.
 #[derive(Clone, Copy)]
 pub struct RunList<'a> {
     pub(crate) runs: &'a [RowSelector],
-    pub(crate) all: usize,
-    pub(crate) selected: usize,
-    ghost whole: { canonical runs.now ≡ true },
-    ghost counted: { all ≡ length (run_rows runs.now) },
-    ghost chosen: { selected ≡ selected_count (run_rows runs.now) },
-    ghost within: { all ≤ row_limit },
+    pub(crate) counts: RowCounts,
+    ghost list: { IsRunList runs.now counts },
 }
 
 impl<'a> RunList<'a> {
@@ -24,23 +22,26 @@ impl<'a> RunList<'a> {
     {
         RunList {
             runs: &[],
-            all: 0,
-            selected: 0,
+            counts: RowCounts {
+                all: 0,
+                selected: 0,
+            },
         }
     }
 
     // The list of these runs, whose rows are counted already.
-    pub fn of(runs: &'a [RowSelector], all: usize, selected: usize) -> RunList<'a>
-        requires whole { canonical runs.now ≡ true }
-        requires counted { (all ≡ length (run_rows runs.now)) × (selected ≡ selected_count (run_rows runs.now)) }
-        requires within { all ≤ row_limit }
+    pub fn of(runs: &'a [RowSelector], counts: RowCounts) -> RunList<'a>
+        requires { IsRunList runs.now counts }
         ensures { result.runs.now ≡ runs.now }
     {
-        RunList {
-            runs,
-            all,
-            selected,
-        }
+        RunList { runs, counts }
+    }
+
+    // How many rows it has, and how many of them are selected.
+    pub fn counts(&self) -> RowCounts
+        ensures { IsRunList self.now.runs.now result }
+    {
+        self.counts
     }
 
     // The runs, which stand for the rows of the list.
@@ -62,8 +63,10 @@ impl<'a> RunList<'a> {
         }
         RunList {
             runs: rest,
-            all: self.all - last.row_count,
-            selected: self.selected,
+            counts: RowCounts {
+                all: self.counts.all - last.row_count,
+                selected: self.counts.selected,
+            },
         }
     }
 }

@@ -10,26 +10,26 @@ use rows::selector::RowSelector;
 impl<'a> RunSource for RunList<'a> {
     ghost rows = { λ s. run_rows s.runs.now };
 
-    ghost within = { λ s. few-rows s.all s.runs.now s.counted s.within };
-
     fn next_run(&mut self) -> Option<RowSelector> {
         let [first, rest @ ..] = self.runs else {
             return None;
         };
         let run = *first;
-        self.all -= run.row_count;
-        self.selected -= run.selected();
+        self.counts.all -= run.row_count;
+        self.counts.selected -= run.selected();
         self.runs = rest;
         Some(run)
     }
+
+    ghost within = { λ s. few-rows s.runs.now s.counts s.list };
 }
 
 impl<'a> CountedSource for RunList<'a> {
     fn rows_left(&self) -> usize {
-        self.all
+        self.counts.all
     }
 
     fn selected_left(&self) -> usize {
-        self.selected
+        self.counts.selected
     }
 }

@@ -10,19 +10,19 @@ pub trait RunSource: Copy {
     // the rows still to come
     ghost rows: { Self → List Bool };
 
-    // no more rows than the limit: a proof that each impl gives
-    ghost within: { (s : Self) → length (rows s) ≤ row_limit };
-
     // The whole leading run of equal rows, which is removed; none exactly when no row is left.
     fn next_run(&mut self) -> Option<RowSelector>
         ensures { Next (rows self.old) result (rows self.new) };
+
+    // no more rows than the limit
+    ghost within: { (s : Self) → length (rows s) ≤ row_limit };
 }
 
 // A source that also tells how many rows, and how many selected rows, are left.
 pub trait CountedSource: RunSource {
     fn rows_left(&self) -> usize
-        ensures { result ≡ length (Self.RunSource.rows self.now) };
+        ensures { result ≡ length (Self.rows self.now) };
 
     fn selected_left(&self) -> usize
-        ensures { result ≡ selected_count (Self.RunSource.rows self.now) };
+        ensures { result ≡ selected_count (Self.rows self.now) };
 }

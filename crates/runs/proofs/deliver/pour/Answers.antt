@@ -7,16 +7,16 @@ use Rattle.runs.proofs.deliver.pour.Goals as goal
 
 pub loop-run-init : goal.loop-run-init
 loop-run-init g c =
-    let k = g.K.RowSink in
-    (ap (λ l. l ++ g.P.Pieces.rows c.args.from) c.requires.empty, refl, k.still _)
+    let k = g.K.RowSink.sink in
+    (ap (λ l. l ++ g.P.Pieces.rows c.args.from) c.requires.empty, refl, g.met.K.RowSink.laws.still _)
 
 pub unreachable-requires : goal.unreachable-requires
 unreachable-requires g c =
-    let k = g.K.RowSink in
+    let k = g.K.RowSink.sink in
     let inv = c.loop-run.invariant in
-    c.if-not-put.ensures.takes.0
+    c.in_default-put.ensures.takes.0
     (subst (λ n. Room k.cost n (k.rows c.loop-run.out ++ run_of c.in-Some.run')) (sym inv.1)
-    (pour-room _ (k.rows c.loop-run.out) (g.P.Pieces.rows c.loop-run.rest) (run_of c.in-Some.run') (g.P.Pieces.rows c.piece.new.self) inv.0 c.in-Some.ensures.1 k.cost _ k.dearer c.requires.room))
+    (pour-room _ (k.rows c.loop-run.out) (g.P.Pieces.rows c.loop-run.rest) (run_of c.in-Some.run') (g.P.Pieces.rows c.piece.new.self) inv.0 c.in-Some.ensures.1 k.cost _ g.met.K.RowSink.laws.dearer c.requires.room))
 
 pub loop-run-smaller : goal.loop-run-smaller
 loop-run-smaller g c =
@@ -24,10 +24,10 @@ loop-run-smaller g c =
 
 pub loop-run-preserved : goal.loop-run-preserved
 loop-run-preserved g c =
-    let k = g.K.RowSink in
+    let k = g.K.RowSink.sink in
     let inv = c.loop-run.invariant in
-    let taken = c.if-not-put.ensures.takes.1 in (
+    let taken = c.in-Ok.ensures.takes.1 in (
       pour-more _ (k.rows c.loop-run.out) (g.P.Pieces.rows c.loop-run.rest) (run_of c.in-Some.run') (g.P.Pieces.rows c.piece.new.self) inv.0 c.in-Some.ensures.1 _ taken,
       c.put.ensures.stays ∙ inv.1,
-      k.chain _ _ _ (run_of c.in-Some.run') taken inv.2 c.put.ensures.rest,
+      g.met.K.RowSink.laws.chain _ _ _ (run_of c.in-Some.run') taken inv.2 c.put.ensures.rest,
     )

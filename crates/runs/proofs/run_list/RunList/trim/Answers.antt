@@ -23,27 +23,29 @@ pub returns-then-not-last : goal.returns-then-not-last
 returns-then-not-last c =
     let s = c.args.self in
     let xs = s.runs.now in
-    selected-trimmed xs (last_run xs) s.whole (cut xs (search rules)) c.if-not-last.true
+    selected-trimmed xs (last_run xs) s.list.whole (cut xs (search rules)) c.if-not-last.true
 
 pub overflow_sub-result : goal.overflow_sub-result
 overflow_sub-result c =
     let s = c.args.self in
     let xs = s.runs.now in
-    omega (arith, s.counted, front_length xs (last_run xs) s.whole (cut xs (search rules)))
+    omega (arith, s.list.counted, front_length xs (last_run xs) s.list.whole (cut xs (search rules)))
 
 pub invariant_of-result : goal.invariant_of-result
 invariant_of-result c =
     let s = c.args.self in
     let xs = s.runs.now in
     let e = cut xs (search rules) in record {
-      whole = front-canonical xs (last_run xs) s.whole e;
-      counted = omega (arith, s.counted, front_length xs (last_run xs) s.whole e);
-      chosen = s.chosen ∙ front-count xs (last_run xs) s.whole e c.if-not-last.false;
-      within = omega (arith, s.within);
+      list = record {
+        whole = front-canonical xs (last_run xs) s.list.whole e;
+        counted = omega (arith, s.list.counted, front_length xs (last_run xs) s.list.whole e);
+        chosen = s.list.chosen ∙ front-count xs (last_run xs) s.list.whole e c.if-not-last.false;
+        within = omega (arith, s.list.within);
+      };
     }
 
 pub returns : goal.returns
 returns c =
     let s = c.args.self in
     let xs = s.runs.now in
-    front-trimmed xs (last_run xs) s.whole (cut xs (search rules)) c.if-not-last.false
+    front-trimmed xs (last_run xs) s.list.whole (cut xs (search rules)) c.if-not-last.false

@@ -22,23 +22,25 @@ pub overflow_sub-self : goal.overflow_sub-self
 overflow_sub-self c =
     let s = c.args.self.now in
     let xs = s.runs.now in
-    omega (arith, s.counted, rest-length xs (head xs) (tail xs) (cut xs (search rules)))
+    omega (arith, s.list.counted, rest-length xs (head xs) (tail xs) (cut xs (search rules)))
 
 pub overflow_sub-self-2 : goal.overflow_sub-self-2
 overflow_sub-self-2 c =
     let s = c.args.self.now in
     let xs = s.runs.now in
-    omega (arith, s.chosen, c.selected.ensures, rest-selected xs (head xs) (tail xs) (cut xs (search rules)))
+    omega (arith, s.list.chosen, c.selected.ensures, rest-selected xs (head xs) (tail xs) (cut xs (search rules)))
 
 pub invariant_of-self : goal.invariant_of-self
 invariant_of-self c =
     let s = c.args.self.now in
     let xs = s.runs.now in
     let e = cut xs (search rules) in record {
-      whole = (rest-canonical xs (head xs) (tail xs) e s.whole).2;
-      counted = omega (arith, s.counted, rest-length xs (head xs) (tail xs) e);
-      chosen = omega (arith, s.chosen, c.selected.ensures, rest-selected xs (head xs) (tail xs) e);
-      within = omega (arith, s.within);
+      list = record {
+        whole = (rest-canonical xs (head xs) (tail xs) e s.list.whole).2;
+        counted = omega (arith, s.list.counted, rest-length xs (head xs) (tail xs) e);
+        chosen = omega (arith, s.list.chosen, c.selected.ensures, rest-selected xs (head xs) (tail xs) e);
+        within = omega (arith, s.list.within);
+      };
     }
 
 pub returns : goal.returns
@@ -46,5 +48,5 @@ returns c =
     let s = c.args.self.now in
     let xs = s.runs.now in
     let e = cut xs (search rules) in
-    let w = rest-canonical xs (head xs) (tail xs) e s.whole in
+    let w = rest-canonical xs (head xs) (tail xs) e s.list.whole in
     (w.0, rest-rows xs (head xs) (tail xs) e, w.1)
