@@ -1,6 +1,9 @@
 -- Whole runs of rows that are the same, and runs of which one selects. Assumes nothing.
-use Rattle.std.proofs.Common.{◌≡◌, ℕ, zero, suc, ◌-◌, ◌<◌, Bool, true, false, cond, not, ltb, List, [], ◌∷◌, ◌++◌, length, drop, replicate, is_some, Some, None, Option, sym, refl, ap, ◌∙◌, subst, arith}
-use Rattle.std.proofs.lemmas.Bool.{lt-ltb}
+use Rattle.std.proofs.Common.{◌≡◌, ℕ, zero, suc, ◌-◌, ◌<◌, Bool, true, false, cond, not, ◌&&◌, eqb, ltb, List, [], ◌∷◌, ◌++◌, length, drop, replicate, is_some, Some, None, Option, sym, refl, ap, ◌∙◌, subst, arith}
+use mathlib.Core.Bool.{beq}
+use Rattle.std.specs.Option.{option_eq}
+use Rattle.std.proofs.lemmas.Bool.{lt-ltb, true≢false, and_from, and_parts, eq-eqb, eqb-true}
+use Rattle.runs.proofs.RunPlaceLaws.{beq-is}
 use Rattle.rows.specs.declared.selector.RowSelector.{RowSelector}
 use Rattle.rows.specs.Items.{Decides}
 use Rattle.rows.specs.Rows.{selected_count, run_of, NotFirst}
@@ -41,23 +44,46 @@ module _ (r q : RowSelector) (whole others xs ys : List Bool) (a : Next whole (S
       let m = ap not (same-marks e) in
       sym (leads r.row_count (not r.skip) xs a.2) ∙ ap (leading (not r.skip)) (sym a.1 ∙ e ∙ b.1) ∙ ap (λ c. leading c (run_of q ++ ys)) m ∙ leads q.row_count (not q.skip) ys b.2
 
-  -- where the runs are the same, so are the rows exactly where those after them are
-  module _ (n : r.row_count ≡ q.row_count) (s : r.skip ≡ q.skip) where
-    runs : run_of r ≡ run_of q
-    runs = rw (n, s)
+-- rows after the same whole run are the same exactly where they are the same with it
+module _ (r : RowSelector) (whole others xs ys : List Bool) (a : Next whole (Some r) xs) (b : Next others (Some r) ys) where
+  pub whole-from-rest : xs ≡ ys → whole ≡ others
+  whole-from-rest e = a.1 ∙ ap (λ l. run_of r ++ l) e ∙ sym b.1
 
-    pub whole-from-rest : xs ≡ ys → whole ≡ others
-    whole-from-rest e = a.1 ∙ ap (λ l. l ++ xs) runs ∙ ap (λ l. run_of q ++ l) e ∙ sym b.1
-
-    pub rest-from-whole : whole ≡ others → xs ≡ ys
-    rest-from-whole e = sym (past r xs) ∙ ap (drop r.row_count) (sym a.1 ∙ e ∙ b.1) ∙ ap (λ k. drop k (run_of q ++ ys)) n ∙ past q ys
-      where
-        past : (p : RowSelector) (zs : List Bool) → drop p.row_count (run_of p ++ zs) ≡ zs
-        past p zs = drop-stretch p.row_count p.row_count (not p.skip) zs (omega arith) ∙ ap (λ k. drop k zs) (let z : p.row_count - p.row_count ≡ 0 = omega arith in z)
+  pub rest-from-whole : whole ≡ others → xs ≡ ys
+  rest-from-whole e = sym (past xs) ∙ ap (drop r.row_count) (sym a.1 ∙ e ∙ b.1) ∙ past ys
+    where
+      past : (zs : List Bool) → drop r.row_count (run_of r ++ zs) ≡ zs
+      past zs = drop-stretch r.row_count r.row_count (not r.skip) zs (omega arith) ∙ ap (λ k. drop k zs) (let z : r.row_count - r.row_count ≡ 0 = omega arith in z)
 
 -- no rows are not a run
 pub no_run : (r : RowSelector) (whole xs : List Bool) → Next whole (Some r) xs → whole ≡ [] → ⊥
 no_run r whole xs a e = omega (arith, a.0, ap length (sym e ∙ a.1), length_run r.row_count (not r.skip) xs)
+
+-- the same rows begin with the same whole run
+pub same-run : (r : RowSelector) (o : Option RowSelector) (whole others xs ys : List Bool) → Next whole (Some r) xs → Next others o ys → whole ≡ others → o ≡ Some r
+same-run r None whole others xs ys a b e = absurd (no_run r whole xs a (e ∙ b.0))
+same-run r (Some q) whole others xs ys a b e =
+    let n = same-lengths r q whole others xs ys a b e in
+    let s = same-marks r q whole others xs ys a b e in
+    ap Some (rw (n, s))
+
+-- two runs compare as equal where they are the same, and nowhere else
+abbrev eq_run : RowSelector → RowSelector → Bool
+eq_run x y = eqb x.row_count y.row_count && beq x.skip y.skip
+
+pub is-run : (r : RowSelector) (o : Option RowSelector) → option_eq eq_run o (Some r) ≡ true → o ≡ Some r
+is-run r None e = absurd (true≢false (sym e))
+is-run r (Some q) e =
+    let n : q.row_count ≡ r.row_count = eqb-true _ _ (and_parts _ _ e).0 in
+    let s = beq-is q.skip r.skip (and_parts _ _ e).1 in
+    ap Some (rw (n, s))
+
+pub not-run : (r : RowSelector) (o : Option RowSelector) → option_eq eq_run o (Some r) ≡ false → o ≡ Some r → ⊥
+not-run r o e h = true≢false (sym (and_from _ _ (eq-eqb r.row_count r.row_count refl) (beq-self r.skip)) ∙ ap (λ p. option_eq eq_run p (Some r)) (sym h) ∙ e)
+  where
+    beq-self : (b : Bool) → beq b b ≡ true
+    beq-self true = refl
+    beq-self false = refl
 
 -- whether a first run selects, and whether anything comes after a first run of skips
 pub selects-first : (r : RowSelector) (whole xs : List Bool) → Next whole (Some r) xs → r.skip ≡ false → true ≡ ltb 0 (selected_count whole)

@@ -2,8 +2,7 @@
 use Rattle.std.proofs.Common.{◌≡◌, ℕ, suc, ◌+◌, ◌-◌, ◌<◌, Bool, true, false, cond, List, ◌∷◌, ◌++◌, length, get_or, drop, replicate, Some, Option, sym, ap, ◌∙◌, arith}
 use Rattle.std.proofs.lemmas.List.{drop_more}
 use Rattle.std.proofs.lemmas.Bool.{eq-eqb, ne_eqb}
-use Rattle.rows.specs.declared.range.RowRange.{RowRange}
-use Rattle.rows.specs.Ranges.{is_void, is_bad, bad_range, range_rows}
+use Rattle.rows.specs.Ranges.{RowRange, is_void, is_bad, bad_range, range_rows}
 
 -- ranges xs with the first range r
 module _ (total p : ℕ) (xs : List RowRange) (r : RowRange) (rs : List RowRange) (e : xs ≡ r ∷ rs) where

@@ -1,8 +1,8 @@
 // A second filter, judging only the rows that a first one left.
-ghost use Rattle.std.specs.Prelude.{◌≡◌, MatchResult, OnOk};
-ghost use Rattle.refusals.specs.Refusals.{verdict};
+ghost use Rattle.std.specs.Prelude.{OnOk};
 ghost use Rattle.rows.specs.Rules.{and_then};
 ghost use Rattle.rows.specs.Said.{ByRank};
+ghost use Rattle.runs.specs.Sinks.{Writes};
 ghost use Rattle.algebra.specs.Verdicts.{narrows};
 
 use crate::narrowed::Narrowed;
@@ -18,10 +18,8 @@ pub fn and_then<A: CountedSource, B: CountedSource, K: RowSink>(
     second: B,
     out: &mut K,
 ) -> Result<(), SelectionFault>
-    ensures verdict { verdict result ≡ narrows K.RowSink.layer K.RowSink.cost (K.RowSink.capacity out.old) (A.RunSource.rows first) (B.RunSource.rows second) }
-    ensures written { MatchResult result (λ _. K.RowSink.rows out.new ≡ and_then (A.RunSource.rows first) (B.RunSource.rows second)) (λ _. out.new ≡ out.old) }
-    ensures by_rank { OnOk result (ByRank (A.RunSource.rows first) (B.RunSource.rows second) (K.RowSink.rows out.new)) }
-    ensures rest { K.RowSink.keeps out.old out.new }
+    ensures writes { Writes K.sink out.old (narrows K.sink out.old (A.rows first) (B.rows second)) (and_then (A.rows first) (B.rows second)) result out.new }
+    ensures by_rank { OnOk result (ByRank (A.rows first) (B.rows second) (K.sink.rows out.new)) }
 {
     let wanted = first.selected_left();
     let given = second.rows_left();

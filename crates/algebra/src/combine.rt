@@ -1,9 +1,8 @@
 // Two selections combined under a policy: `intersection` under AND, `union` under OR.
-ghost use Rattle.std.specs.Prelude.{◌≡◌, MatchResult, OnOk};
-ghost use Rattle.refusals.specs.Refusals.{verdict};
+ghost use Rattle.std.specs.Prelude.{OnOk};
 ghost use Rattle.rows.specs.Rules.{combine};
 ghost use Rattle.rows.specs.Said.{RowByRow};
-ghost use Rattle.runs.specs.Sinks.{placed};
+ghost use Rattle.runs.specs.Sinks.{Delivers};
 
 use crate::combined::Combined;
 use policies::policy::Policy;
@@ -19,10 +18,8 @@ pub fn combine<A: RunSource, B: RunSource, P: Policy, K: RowSink>(
     policy: P,
     out: &mut K,
 ) -> Result<(), SelectionFault>
-    ensures verdict { verdict result ≡ placed K.RowSink.layer K.RowSink.cost (K.RowSink.capacity out.old) (combine P.Policy.rule (A.RunSource.rows first) (B.RunSource.rows second)) }
-    ensures written { MatchResult result (λ _. K.RowSink.rows out.new ≡ combine P.Policy.rule (A.RunSource.rows first) (B.RunSource.rows second)) (λ _. out.new ≡ out.old) }
-    ensures row_by_row { OnOk result (RowByRow P.Policy.rule (A.RunSource.rows first) (B.RunSource.rows second) (K.RowSink.rows out.new)) }
-    ensures rest { K.RowSink.keeps out.old out.new }
+    ensures delivers { Delivers K.sink out.old (combine P.rule (A.rows first) (B.rows second)) result out.new }
+    ensures row_by_row { OnOk result (RowByRow P.rule (A.rows first) (B.rows second) (K.sink.rows out.new)) }
 {
     deliver(Combined::new(first, second, policy), out)
 }

@@ -19,7 +19,7 @@ pub struct Combined<A, B, P> {
 
 impl<A: RunSource, B: RunSource, P: Policy> Combined<A, B, P> {
     pub(crate) fn new(first: A, second: B, policy: P) -> Combined<A, B, P>
-        ensures { combine P.Policy.rule (held_rows A.RunSource.rows result.first) (held_rows B.RunSource.rows result.second) ≡ combine P.Policy.rule (A.RunSource.rows first) (B.RunSource.rows second) }
+        ensures { combine P.rule (held_rows A.rows result.first) (held_rows B.rows result.second) ≡ combine P.rule (A.rows first) (B.rows second) }
     {
         Combined {
             first: Held::new(first),
@@ -30,31 +30,29 @@ impl<A: RunSource, B: RunSource, P: Policy> Combined<A, B, P> {
 }
 
 impl<A: RunSource, B: RunSource, P: Policy> Pieces for Combined<A, B, P> {
-    ghost rows = { λ s. combine P.Policy.rule (held_rows A.RunSource.rows s.first) (held_rows B.RunSource.rows s.second) };
+    ghost rows = { λ s. combine P.rule (held_rows A.rows s.first) (held_rows B.rows s.second) };
 
     fn piece(&mut self) -> Option<RowSelector> {
-        let more = self.first.fill();
-        let others = self.second.fill();
-        let run = self.first.run;
-        let other = self.second.run;
-        if !more {
-            if !others {
-                return None;
+        match (self.first.peek(), self.second.peek()) {
+            (None, None) => None,
+            (Some(run), None) => {
+                self.first.take(run.row_count);
+                Some(run)
             }
-            self.second.take(other.row_count);
-            return Some(other);
+            (None, Some(other)) => {
+                self.second.take(other.row_count);
+                Some(other)
+            }
+            (Some(run), Some(other)) => {
+                let n = run.row_count.min(other.row_count);
+                self.first.take(n);
+                self.second.take(n);
+                let mark = P::mark(!run.skip, !other.skip);
+                Some(RowSelector {
+                    row_count: n,
+                    skip: !mark,
+                })
+            }
         }
-        if !others {
-            self.first.take(run.row_count);
-            return Some(run);
-        }
-        let n = run.row_count.min(other.row_count);
-        self.first.take(n);
-        self.second.take(n);
-        let mark = P::mark(!run.skip, !other.skip);
-        Some(RowSelector {
-            row_count: n,
-            skip: !mark,
-        })
     }
 }

@@ -7,18 +7,12 @@ use runs::source::RunSource;
 
 // Whether two sources have the same rows: whole runs are compared, since rows have only one list of them.
 pub fn same_rows<A: RunSource, B: RunSource>(first: A, second: B) -> bool
-    ensures { Decides result (A.RunSource.rows first ≡ B.RunSource.rows second) }
+    ensures { Decides result (A.rows first ≡ B.rows second) }
 {
     let mut rest = first;
     let mut others = second;
     while let Some(run) = rest.next_run() {
-        let Some(other) = others.next_run() else {
-            return false;
-        };
-        if run.row_count != other.row_count {
-            return false;
-        }
-        if run.skip != other.skip {
+        if others.next_run() != Some(run) {
             return false;
         }
     }
@@ -27,7 +21,7 @@ pub fn same_rows<A: RunSource, B: RunSource>(first: A, second: B) -> bool
 
 // Whether a row is selected: of whole runs, the first or the second has it.
 pub fn selects_any<S: RunSource>(source: S) -> bool
-    ensures { result ≡ nat_lt 0 (selected_count (S.RunSource.rows source)) }
+    ensures { result ≡ nat_lt 0 (selected_count (S.rows source)) }
 {
     let mut rest = source;
     let Some(run) = rest.next_run() else {

@@ -1,7 +1,6 @@
 // Two selections joined end to end.
-ghost use Rattle.std.specs.Prelude.{◌≡◌, ◌++◌, MatchResult};
-ghost use Rattle.refusals.specs.Refusals.{verdict};
-ghost use Rattle.runs.specs.Sinks.{joins};
+ghost use Rattle.std.specs.Prelude.{◌++◌};
+ghost use Rattle.runs.specs.Sinks.{Writes, joins};
 
 use refusals::fault::SelectionFault;
 use rows::limit::ROW_LIMIT;
@@ -19,13 +18,13 @@ pub struct Joined<A, B> {
 }
 
 impl<A: RunSource, B: RunSource> Pieces for Joined<A, B> {
-    ghost rows = { λ s. A.RunSource.rows s.first ++ B.RunSource.rows s.second };
+    ghost rows = { λ s. A.rows s.first ++ B.rows s.second };
 
     fn piece(&mut self) -> Option<RowSelector> {
-        if let Some(run) = self.first.next_run() {
-            return Some(run);
+        match self.first.next_run() {
+            Some(run) => Some(run),
+            None => self.second.next_run(),
         }
-        self.second.next_run()
     }
 }
 
@@ -35,9 +34,7 @@ pub fn join<A: CountedSource, B: CountedSource, K: RowSink>(
     second: B,
     out: &mut K,
 ) -> Result<(), SelectionFault>
-    ensures verdict { verdict result ≡ joins K.RowSink.layer K.RowSink.cost (K.RowSink.capacity out.old) (A.RunSource.rows first) (B.RunSource.rows second) }
-    ensures written { MatchResult result (λ _. K.RowSink.rows out.new ≡ A.RunSource.rows first ++ B.RunSource.rows second) (λ _. out.new ≡ out.old) }
-    ensures rest { K.RowSink.keeps out.old out.new }
+    ensures { Writes K.sink out.old (joins K.sink out.old (A.rows first) (B.rows second)) (A.rows first ++ B.rows second) result out.new }
 {
     if ROW_LIMIT < first.rows_left() + second.rows_left() {
         return Err(SelectionFault::RowLimit(1));

@@ -17,7 +17,7 @@ pub struct Narrowed<A, B> {
 
 impl<A: RunSource, B: RunSource> Narrowed<A, B> {
     pub(crate) fn new(first: A, second: B) -> Narrowed<A, B>
-        ensures { and_then (held_rows A.RunSource.rows result.first) (held_rows B.RunSource.rows result.second) ≡ and_then (A.RunSource.rows first) (B.RunSource.rows second) }
+        ensures { and_then (held_rows A.rows result.first) (held_rows B.rows result.second) ≡ and_then (A.rows first) (B.rows second) }
     {
         Narrowed {
             first: Held::new(first),
@@ -27,25 +27,21 @@ impl<A: RunSource, B: RunSource> Narrowed<A, B> {
 }
 
 impl<A: RunSource, B: RunSource> Pieces for Narrowed<A, B> {
-    ghost rows = { λ s. and_then (held_rows A.RunSource.rows s.first) (held_rows B.RunSource.rows s.second) };
+    ghost rows = { λ s. and_then (held_rows A.rows s.first) (held_rows B.rows s.second) };
 
     fn piece(&mut self) -> Option<RowSelector> {
-        if !self.first.fill() {
-            return None;
-        }
-        let run = self.first.run;
+        let run = self.first.peek()?;
         if run.skip {
             self.first.take(run.row_count);
             return Some(run);
         }
-        if !self.second.fill() {
+        let Some(other) = self.second.peek() else {
             self.first.take(run.row_count);
             return Some(RowSelector {
                 row_count: run.row_count,
                 skip: true,
             });
-        }
-        let other = self.second.run;
+        };
         let n = run.row_count.min(other.row_count);
         self.first.take(n);
         self.second.take(n);

@@ -1,7 +1,7 @@
 // A selection made from ranges of rows.
-ghost use Rattle.std.specs.Prelude.{◌≡◌, MatchResult, OnOk};
-ghost use Rattle.refusals.specs.Refusals.{verdict};
+ghost use Rattle.std.specs.Prelude.{◌≡◌, OnOk};
 ghost use Rattle.rows.specs.Ranges.{is_bad, bad_range, range_rows, InRanges};
+ghost use Rattle.runs.specs.Sinks.{Writes};
 ghost use Rattle.algebra.specs.Verdicts.{ranged};
 
 use crate::consecutive::Consecutive;
@@ -22,7 +22,7 @@ fn is_bad(range: RowRange, end: usize, total: usize) -> bool
 fn first_bad(ranges: &[RowRange], total: usize) -> Option<usize>
     ensures { result ≡ bad_range total 0 0 ranges.now }
 {
-    let mut end: usize = 0;
+    let mut end = 0;
     for (i, range) in ranges.iter().enumerate() {
         if range.start == range.end {
             continue;
@@ -41,10 +41,8 @@ pub fn from_consecutive_ranges<K: RowSink>(
     total: usize,
     out: &mut K,
 ) -> Result<(), SelectionFault>
-    ensures verdict { verdict result ≡ ranged K.RowSink.layer K.RowSink.cost (K.RowSink.capacity out.old) total ranges.now }
-    ensures written { MatchResult result (λ _. K.RowSink.rows out.new ≡ range_rows total 0 ranges.now) (λ _. out.new ≡ out.old) }
-    ensures in_ranges { OnOk result (InRanges total ranges.now (K.RowSink.rows out.new)) }
-    ensures rest { K.RowSink.keeps out.old out.new }
+    ensures writes { Writes K.sink out.old (ranged K.sink out.old total ranges.now) (range_rows total 0 ranges.now) result out.new }
+    ensures in_ranges { OnOk result (InRanges total ranges.now (K.sink.rows out.new)) }
 {
     if ROW_LIMIT < total {
         return Err(SelectionFault::RowLimit(0));

@@ -1,24 +1,22 @@
 // In which form a selection is better read.
-ghost use Rattle.std.specs.Prelude.{◌≡◌, ◌+◌, min};
+ghost use Rattle.std.specs.Prelude.{◌≡◌, min};
 ghost use Rattle.rows.specs.Rows.{count_runs};
 ghost use Rattle.rows.specs.Rules.{strategy};
 
 use rows::strategy::RowSelectionStrategy;
 use runs::source::{CountedSource, RunSource};
 
-// The whole runs of a source, counted no further than one past `most`.
+// The whole runs of a source, counted no further than `most`.
 fn count_runs<S: RunSource>(source: S, most: usize) -> usize
-    ensures { result ≡ min (count_runs (S.RunSource.rows source)) (most + 1) }
+    ensures { result ≡ min (count_runs (S.rows source)) most }
 {
     let mut rest = source;
-    let mut runs: usize = 0;
-    while runs <= most {
+    for runs in 0..most {
         let Some(_) = rest.next_run() else {
             return runs;
         };
-        runs += 1;
     }
-    runs
+    most
 }
 
 // A mask where there are no runs, or fewer rows than runs times the threshold; the product is never formed.
@@ -26,7 +24,7 @@ pub fn auto_selection_strategy<S: CountedSource>(
     source: S,
     threshold: usize,
 ) -> RowSelectionStrategy
-    ensures { result ≡ strategy threshold (S.RunSource.rows source) }
+    ensures { result ≡ strategy threshold (S.rows source) }
 {
     let total = source.rows_left();
     if total == 0 {
@@ -36,7 +34,7 @@ pub fn auto_selection_strategy<S: CountedSource>(
         return RowSelectionStrategy::Selectors;
     }
     let most = total / threshold;
-    if count_runs(source, most) > most {
+    if count_runs(source, most + 1) > most {
         return RowSelectionStrategy::Mask;
     }
     RowSelectionStrategy::Selectors

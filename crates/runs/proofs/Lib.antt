@@ -1,4 +1,5 @@
 pub mod PlaceLaws
+pub mod HeldLaws
 pub mod RunPlaceLaws
 pub mod SinkLaws
 pub mod RawLaws

@@ -1,14 +1,15 @@
 -- Laws of what a sink has room for, and of rows poured into one. Assumes nothing.
-use Rattle.std.proofs.Common.{◌≡◌, ℕ, ◌+◌, ◌<◌, ◌≤◌, Bool, true, false, cond, not, ltb, List, ◌++◌, length, replicate, None, Ok, Err, sym, refl, ap, ◌∙◌, subst, append_assoc, append-nil, arith, length-append}
+use Rattle.std.proofs.Common.{◌≡◌, ℕ, ◌+◌, ◌<◌, ◌≤◌, Bool, true, false, cond, not, ltb, List, ◌++◌, length, replicate, None, Ok, Err, Result, OnOk, sym, refl, ap, ◌∙◌, subst, append_assoc, append-nil, arith, length-append}
 use lib.ListN.{length-replicate}
 use Rattle.rows.specs.declared.selector.RowSelector.{RowSelector}
 use Rattle.rows.specs.Rows.{row_limit, run_of, count_runs}
 use Rattle.rows.proofs.Counts.{runs-front}
 use Rattle.std.proofs.lemmas.Bool.{ltb-false}
+use Rattle.std.proofs.lemmas.Result.{MatchResult-weaker}
 use Rattle.refusals.specs.declared.refusal.Layer.{Layer}
 use Rattle.refusals.specs.declared.fault.SelectionFault.{SelectionFault}
 use Rattle.refusals.specs.Refusals.{no, refused, verdict}
-use Rattle.runs.specs.Sinks.{Verdict, Room, admitted, then_placed}
+use Rattle.runs.specs.Sinks.{Verdict, Sink, Room, Writes, Delivers, admitted, then_placed}
 
 -- rows that have room have room for their first ones
 pub room-front : (cost : ℕ → ℕ → ℕ) (cap : ℕ) → ((m n p q : ℕ) → m ≤ p → n ≤ q → cost m n ≤ cost p q) → (xs ys : List Bool) → Room cost cap (xs ++ ys) → Room cost cap xs
@@ -52,3 +53,14 @@ first-told e a b h = ap (λ v. then_placed v b) h
 -- after a first answer the second verdict counts
 pub second-told : (a b v : Verdict) → Ok tt ≡ a → v ≡ b → v ≡ then_placed a b
 second-told a b v h k = k ∙ ap (λ u. then_placed u b) h
+
+-- rows that were delivered, and the verdict on them, by another name
+pub delivered-as : {S : Type 0} (k : Sink S) {s t : S} {xs ys : List Bool} {r : Result (Unit {0}) SelectionFault} → xs ≡ ys → Delivers k s xs r t → Delivers k s ys r t
+delivered-as k {s} {t} {xs} {ys} {r} e d = subst (λ zs. Delivers k s zs r t) e d
+
+pub told-as : {S : Type 0} (k : Sink S) {s t : S} {v w : Verdict} {xs : List Bool} {r : Result (Unit {0}) SelectionFault} → v ≡ w → Writes k s v xs r t → Writes k s w xs r t
+told-as k {s} {t} {v} {w} {xs} {r} e d = subst (λ u. Writes k s u xs r t) e d
+
+-- what is true of the rows that a call was to write is true of those that the sink then has
+pub of-delivered : {S : Type 0} (k : Sink S) {s t : S} {v : Verdict} {xs : List Bool} {r : Result (Unit {0}) SelectionFault} (P : List Bool → Type 0) → P xs → Writes k s v xs r t → OnOk r (P (k.rows t))
+of-delivered k {r = r} P h d = MatchResult-weaker r d.written (λ _ e. subst P (sym e) h) (λ _ _. tt)

@@ -1,26 +1,16 @@
-use Rattle.std.proofs.Common.{◌≡◌, not, sym, ap, ◌∙◌, arith}
+use Rattle.std.proofs.Common.{◌≡◌, Some, not, sym, ap, ◌∙◌, subst, arith}
 use Rattle.std.proofs.lemmas.Bool.{not-true, not-false}
 use Rattle.rows.proofs.Counts.{piece-length}
 use Rattle.rows.proofs.Stretches.{not-not}
-use Rattle.algebra.proofs.Alike.{same-marks, same-lengths, whole-from-rest, rest-from-whole, no_run, ended}
-use Rattle.runs.proofs.RunPlaceLaws.{beq-is, beq-not}
+use Rattle.runs.specs.Steps.{Next}
+use Rattle.algebra.proofs.Alike.{same-run, is-run, not-run, whole-from-rest, rest-from-whole, ended}
 use Rattle.algebra.proofs.equal.same_rows.Goals as goal
 
-pub returns-in_default-next_run : goal.returns-in_default-next_run
-returns-in_default-next_run g c e =
-    no_run c.in-Some.run' _ (g.A.RunSource.rows c.next_run.new.self) c.in-Some.ensures (c.loop-run.invariant.1 e ∙ c.in_default-next_run.ensures.0)
-
-pub returns-then-run-other : goal.returns-then-run-other
-returns-then-run-other g c e =
-    let xs = g.A.RunSource.rows c.next_run.new.self in
-    let ys = g.B.RunSource.rows c.next_run-in-Some.new.self in
-    c.if-run-other.true (same-lengths c.in-Some.run' c.in-Some-next_run.other _ _ xs ys c.in-Some.ensures c.in-Some-next_run.ensures (c.loop-run.invariant.1 e))
-
-pub returns-then-run-other-2 : goal.returns-then-run-other-2
-returns-then-run-other-2 g c e =
-    let xs = g.A.RunSource.rows c.next_run.new.self in
-    let ys = g.B.RunSource.rows c.next_run-in-Some.new.self in
-    beq-not _ _ (not-true _ c.if-run-other-2.true) (same-marks c.in-Some.run' c.in-Some-next_run.other _ _ xs ys c.in-Some.ensures c.in-Some-next_run.ensures (c.loop-run.invariant.1 e))
+pub returns-then-ne : goal.returns-then-ne
+returns-then-ne g c e =
+    let r = c.in-Some.run' in
+    let o = c.next_run-in-Some.result in
+    not-run r o (not-true _ (sym c.ne.ensures ∙ c.if-ne.true)) (same-run r o _ _ (g.A.RunSource.rows c.next_run.new.self) (g.B.RunSource.rows c.next_run-in-Some.new.self) c.in-Some.ensures c.next_run-in-Some.ensures (c.loop-run.invariant.1 e))
 
 pub loop-run-smaller : goal.loop-run-smaller
 loop-run-smaller g c = omega (arith, piece-length _ (g.A.RunSource.rows c.next_run.new.self) c.in-Some.run'.row_count (not c.in-Some.run'.skip) c.in-Some.ensures.1, c.in-Some.ensures.0)
@@ -28,14 +18,11 @@ loop-run-smaller g c = omega (arith, piece-length _ (g.A.RunSource.rows c.next_r
 pub loop-run-preserved : goal.loop-run-preserved
 loop-run-preserved g c =
     let r = c.in-Some.run' in
-    let q = c.in-Some-next_run.other in
     let xs = g.A.RunSource.rows c.next_run.new.self in
     let ys = g.B.RunSource.rows c.next_run-in-Some.new.self in
     let a = c.in-Some.ensures in
-    let b = c.in-Some-next_run.ensures in
-    let n : r.row_count ≡ q.row_count = omega (arith, c.if-run-other.false) in
-    let s : r.skip ≡ q.skip = beq-is _ _ (not-false _ c.if-run-other-2.false) in
-    (λ e. c.loop-run.invariant.0 (whole-from-rest r q _ _ xs ys a b n s e), λ e. rest-from-whole r q _ _ xs ys a b n s (c.loop-run.invariant.1 e))
+    let b : Next (g.B.RunSource.rows c.loop-run.others) (Some r) ys = subst (λ o. Next (g.B.RunSource.rows c.loop-run.others) o ys) (is-run r c.next_run-in-Some.result (not-false _ (sym c.ne.ensures ∙ c.if-ne.false))) c.next_run-in-Some.ensures in
+    (λ e. c.loop-run.invariant.0 (whole-from-rest r _ _ xs ys a b e), λ e. rest-from-whole r _ _ xs ys a b (c.loop-run.invariant.1 e))
 
 pub returns : goal.returns
 returns g c =

@@ -1,7 +1,6 @@
 use Rattle.std.proofs.Common.{sym, ap, ◌∙◌, arith}
 use Rattle.std.proofs.lemmas.List.{drop_all}
-use Rattle.rows.specs.declared.range.RowRange.{RowRange}
-use Rattle.rows.specs.Ranges.{bad_range}
+use Rattle.rows.specs.Ranges.{RowRange, bad_range}
 use Rattle.algebra.proofs.Consecutives.{past-void, past-good, at-bad}
 use Rattle.algebra.proofs.ranges.first_bad.Goals as goal
 

@@ -1,7 +1,7 @@
 use Rattle.std.proofs.Common.{sym, ◌∙◌, subst, arith}
 use Rattle.rows.specs.Ranges.{InRanges}
 use Rattle.rows.proofs.RangeLaws.{in-ranges}
-use Rattle.std.proofs.lemmas.Result.{MatchResult-weaker}
+use Rattle.runs.proofs.SinkLaws.{told-as, of-delivered}
 use Rattle.algebra.proofs.Narrows.{ranged-fits}
 use Rattle.algebra.proofs.ranges.from_consecutive_ranges.Goals as goal
 
@@ -10,13 +10,8 @@ deliver-requires g c = omega (arith, (in-ranges c.args.total c.args.ranges.now (
 
 pub returns : goal.returns
 returns g c =
-    let k = g.K.RowSink in
+    let k = g.K.RowSink.sink in
     let rs = c.args.ranges.now in
     let ok = sym c.in_default.ensures in
-    let done = c.deliver.ensures.written in
-    record {
-      verdict = c.deliver.ensures.verdict ∙ ranged-fits k.layer k.cost (k.capacity c.args.out.now) c.args.total rs (omega arith) ok;
-      written = done;
-      in_ranges = MatchResult-weaker c.deliver.result done (λ _ e. subst (InRanges c.args.total rs) (sym e) (in-ranges c.args.total rs ok)) (λ _ _. tt);
-      rest = c.deliver.ensures.rest;
-    }
+    let done = c.deliver.ensures in
+    record { writes = told-as k (ranged-fits k c.args.out.now c.args.total rs (omega arith) ok) done; in_ranges = of-delivered k (InRanges c.args.total rs) (in-ranges c.args.total rs ok) done }

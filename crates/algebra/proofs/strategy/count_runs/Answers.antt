@@ -1,18 +1,14 @@
-use Rattle.std.proofs.Common.{not, None, ap, arith}
+use Rattle.std.proofs.Common.{not, ap, arith}
 use Rattle.rows.specs.Rows.{count_runs}
-use Rattle.rows.proofs.Counts.{runs-le, runs-whole}
+use Rattle.rows.proofs.Counts.{runs-whole}
 use Rattle.algebra.proofs.strategy.count_runs.Goals as goal
 
-pub overflow_add-runs : goal.overflow_add-runs
-overflow_add-runs g c =
-    omega (arith, c.loop-runs.invariant.1, runs-le None (g.S.RunSource.rows c.args.source), g.S.RunSource.within c.args.source)
-
 pub returns-in_default : goal.returns-in_default
-returns-in_default g c = omega (arith, c.loop-runs.invariant.0, c.loop-runs.invariant.1, ap count_runs c.in_default.ensures.0)
+returns-in_default g c = omega (arith, c.loop-runs.invariant, ap count_runs c.in_default.ensures.0)
 
 pub loop-runs-preserved : goal.loop-runs-preserved
 loop-runs-preserved g c =
     let run = c.in-Some.field-0 in
     let left = g.S.RunSource.rows c.next_run.new.self in
     let step = c.in-Some.ensures in
-    (omega arith, omega (arith, c.loop-runs.invariant.1, ap count_runs step.1, runs-whole run.row_count (not run.skip) left step.0 step.2))
+    omega (arith, c.loop-runs.invariant, ap count_runs step.1, runs-whole run.row_count (not run.skip) left step.0 step.2)

@@ -3,7 +3,4 @@ use Rattle.rows.specs.Rows.{count_runs}
 use Rattle.algebra.proofs.strategy.count_runs.Given as goal
 
 abbrev pub invariant-loop-runs : goal.invariant-loop-runs
-invariant-loop-runs g l = (l.runs ≤ l.most + 1) × (l.runs + count_runs (g.S.RunSource.rows l.rest) ≡ count_runs (g.S.RunSource.rows l.initial.rest))
-
-abbrev pub decreases-loop-runs : goal.decreases-loop-runs
-decreases-loop-runs g l = l.most + 1 - l.runs
+invariant-loop-runs g l = l.runs + count_runs (g.S.RunSource.rows l.rest) ≡ count_runs (g.S.RunSource.rows l.initial.rest)

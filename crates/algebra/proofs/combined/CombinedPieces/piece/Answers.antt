@@ -1,15 +1,25 @@
 use Rattle.std.proofs.Common.{not, arith}
 use Rattle.runs.specs.HeldRows.{held_rows}
+use Rattle.runs.proofs.HeldLaws.{taken-of}
 use Rattle.algebra.proofs.Pieces.{piece-alone, piece-both}
 use Rattle.algebra.proofs.combined.CombinedPieces.piece.Goals as goal
 
-pub returns-then-not-others-2 : goal.returns-then-not-others-2
-returns-then-not-others-2 g c =
-    let left = held_rows g.A.RunSource.rows c.take-then-not-others-2.new.self in
-    (c.if-not-more.ensures.some, piece-alone g.P.Policy.rule _ _ left c.fill-more.new.self.run.row_count _ c.fill-more.ensures.same c.take-then-not-others-2.ensures _ _ c.fill-others.ensures.same c.if-not-others-2.ensures.some)
+pub returns-in-Some-None : goal.returns-in-Some-None
+returns-in-Some-None g c =
+    let first = c.in-Some-None.ensures in
+    let second = c.in-Some-None.ensures' in
+    let left = held_rows g.A.RunSource.rows c.take-in-Some-None.new.self in
+    let taken = taken-of _ c.in-Some-None.run' _ _ left first.begun.1 c.take-in-Some-None.ensures in
+    (first.begun.0, piece-alone g.P.Policy.rule _ _ left c.in-Some-None.run'.row_count _ first.same taken _ _ second.same second.begun)
 
-pub returns : goal.returns
-returns g c =
-    let left = held_rows g.A.RunSource.rows c.take-2.new.self in
-    let other = held_rows g.B.RunSource.rows c.take-3.new.self in
-    (omega (arith, c.if-not-more.ensures.some, c.if-not-others-2.ensures.some), piece-both g.P.Policy.rule _ _ left c.min-n.result (not c.fill-more.new.self.run.skip) c.fill-more.ensures.same c.take-2.ensures _ _ c.fill-others.ensures.same other (not c.fill-others.new.self.run.skip) c.mark-mark.result c.take-3.ensures c.mark-mark.ensures)
+pub returns-in-Some-Some : goal.returns-in-Some-Some
+returns-in-Some-Some g c =
+    let first = c.in-Some-Some.ensures in
+    let second = c.in-Some-Some.ensures' in
+    let run = c.in-Some-Some.run' in
+    let other = c.in-Some-Some.other in
+    let left = held_rows g.A.RunSource.rows c.take-in-Some-Some.new.self in
+    let others = held_rows g.B.RunSource.rows c.take-in-Some-Some-2.new.self in
+    let taken = taken-of _ run _ _ left first.begun.1 c.take-in-Some-Some.ensures in
+    let beside = taken-of _ other _ _ others second.begun.1 c.take-in-Some-Some-2.ensures in
+    (omega (arith, first.begun.0, second.begun.0), piece-both g.P.Policy.rule _ _ left c.min-n.result (not run.skip) first.same taken _ _ second.same others (not other.skip) c.mark-mark.result beside c.mark-mark.ensures)

@@ -1,7 +1,6 @@
 use Rattle.std.proofs.Common.{◌≡◌, ◌-◌, ◌<◌, true, false, List, ◌∷◌, ◌++◌, length, get_or, take, drop, replicate, sym, ap, ◌∙◌, append-nil, arith, rules}
 use Rattle.std.proofs.lemmas.List.{nil_from_length}
-use Rattle.rows.specs.declared.range.RowRange.{RowRange}
-use Rattle.rows.specs.Ranges.{range_rows}
+use Rattle.rows.specs.Ranges.{RowRange, range_rows}
 use Rattle.rows.proofs.RunLaws.{first_rest}
 use Rattle.algebra.proofs.Consecutives.{void-first, skip_first, hold-first}
 use Rattle.algebra.proofs.consecutive.ConsecutivePieces.piece.Goals as goal
