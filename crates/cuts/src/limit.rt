@@ -1,10 +1,9 @@
 // The first selected rows of a selection.
-ghost use Rattle.std.specs.Prelude.{◌≡◌, MatchResult, OnOk};
-ghost use Rattle.refusals.specs.Refusals.{verdict};
+ghost use Rattle.std.specs.Prelude.{◌≡◌, OnOk};
 ghost use Rattle.rows.specs.Rules.{limit};
 ghost use Rattle.rows.specs.Said.{Limited as Limits};
 ghost use Rattle.runs.specs.HeldRows.{held_rows};
-ghost use Rattle.runs.specs.Sinks.{placed};
+ghost use Rattle.runs.specs.Sinks.{Delivers};
 
 use refusals::fault::SelectionFault;
 use rows::selector::RowSelector;
@@ -23,7 +22,7 @@ pub struct Limited<S> {
 
 impl<S: RunSource> Limited<S> {
     pub(crate) fn new(source: S, left: usize) -> Limited<S>
-        ensures { limit result.left (held_rows S.RunSource.rows result.rows) ≡ limit left (S.RunSource.rows source) }
+        ensures { limit result.left (held_rows S.rows result.rows) ≡ limit left (S.rows source) }
     {
         Limited {
             rows: Held::new(source),
@@ -33,16 +32,13 @@ impl<S: RunSource> Limited<S> {
 }
 
 impl<S: RunSource> Pieces for Limited<S> {
-    ghost rows = { λ s. limit s.left (held_rows S.RunSource.rows s.rows) };
+    ghost rows = { λ s. limit s.left (held_rows S.rows s.rows) };
 
     fn piece(&mut self) -> Option<RowSelector> {
         if self.left == 0 {
             return None;
         }
-        if !self.rows.fill() {
-            return None;
-        }
-        let run = self.rows.run;
+        let run = self.rows.peek()?;
         if run.skip {
             self.rows.take(run.row_count);
             return Some(run);
@@ -63,10 +59,8 @@ pub fn limit<S: RunSource, K: RowSink>(
     n: usize,
     out: &mut K,
 ) -> Result<(), SelectionFault>
-    ensures verdict { verdict result ≡ placed K.RowSink.layer K.RowSink.cost (K.RowSink.capacity out.old) (limit n (S.RunSource.rows source)) }
-    ensures written { MatchResult result (λ _. K.RowSink.rows out.new ≡ limit n (S.RunSource.rows source)) (λ _. out.new ≡ out.old) }
-    ensures limited { OnOk result (Limits n (S.RunSource.rows source) (K.RowSink.rows out.new)) }
-    ensures rest { K.RowSink.keeps out.old out.new }
+    ensures delivers { Delivers K.sink out.old (limit n (S.rows source)) result out.new }
+    ensures limited { OnOk result (Limits n (S.rows source) (K.sink.rows out.new)) }
 {
     deliver(Limited::new(source, n), out)
 }

@@ -1,10 +1,9 @@
 // A selection without its first selected rows.
-ghost use Rattle.std.specs.Prelude.{◌≡◌, MatchResult, OnOk};
-ghost use Rattle.refusals.specs.Refusals.{verdict};
+ghost use Rattle.std.specs.Prelude.{◌≡◌, OnOk};
 ghost use Rattle.rows.specs.Rules.{skip_selected, offset};
 ghost use Rattle.rows.specs.Said.{Offset};
 ghost use Rattle.runs.specs.HeldRows.{held_rows};
-ghost use Rattle.runs.specs.Sinks.{placed};
+ghost use Rattle.runs.specs.Sinks.{Delivers};
 
 use crate::part::Part;
 use refusals::fault::SelectionFault;
@@ -25,7 +24,7 @@ pub struct Unselected<S> {
 
 impl<S: RunSource> Unselected<S> {
     fn new(source: S, left: usize) -> Unselected<S>
-        ensures { skip_selected result.left (held_rows S.RunSource.rows result.rows) ≡ skip_selected left (S.RunSource.rows source) }
+        ensures { skip_selected result.left (held_rows S.rows result.rows) ≡ skip_selected left (S.rows source) }
     {
         Unselected {
             rows: Held::new(source),
@@ -35,13 +34,10 @@ impl<S: RunSource> Unselected<S> {
 }
 
 impl<S: RunSource> Pieces for Unselected<S> {
-    ghost rows = { λ s. skip_selected s.left (held_rows S.RunSource.rows s.rows) };
+    ghost rows = { λ s. skip_selected s.left (held_rows S.rows s.rows) };
 
     fn piece(&mut self) -> Option<RowSelector> {
-        if !self.rows.fill() {
-            return None;
-        }
-        let run = self.rows.run;
+        let run = self.rows.peek()?;
         if run.skip || self.left == 0 {
             self.rows.take(run.row_count);
             return Some(run);
@@ -62,16 +58,14 @@ pub fn offset<S: CountedSource, K: RowSink>(
     n: usize,
     out: &mut K,
 ) -> Result<(), SelectionFault>
-    ensures verdict { verdict result ≡ placed K.RowSink.layer K.RowSink.cost (K.RowSink.capacity out.old) (offset n (S.RunSource.rows source)) }
-    ensures written { MatchResult result (λ _. K.RowSink.rows out.new ≡ offset n (S.RunSource.rows source)) (λ _. out.new ≡ out.old) }
-    ensures offsets { OnOk result (Offset n (S.RunSource.rows source) (K.RowSink.rows out.new)) }
-    ensures rest { K.RowSink.keeps out.old out.new }
+    ensures delivers { Delivers K.sink out.old (offset n (S.rows source)) result out.new }
+    ensures offsets { OnOk result (Offset n (S.rows source) (K.sink.rows out.new)) }
 {
     if n == 0 {
         return convert(source, out);
     }
     if source.selected_left() <= n {
-        return deliver(Part::new(source, 0), out);
+        return convert(Part::new(source, 0), out);
     }
     deliver(Unselected::new(source, n), out)
 }

@@ -7,7 +7,6 @@ ghost use Rattle.cuts.specs.Shown.{few-part};
 
 use crate::trimming::Trimming;
 use rows::selector::RowSelector;
-use runs::pieces::Pieces;
 use runs::source::{CountedSource, RunSource};
 
 // The rows still to come of a source, at most `left` of them.
@@ -20,24 +19,20 @@ pub struct Part<S> {
 impl<S: RunSource> Part<S> {
     // The first n rows, or all where there are fewer.
     pub fn new(source: S, n: usize) -> Part<S>
-        ensures { part_rows S.RunSource.rows result ≡ take n (S.RunSource.rows source) }
+        ensures { part_rows S.rows result ≡ take n (S.rows source) }
     {
         Part { source, left: n }
     }
 }
 
 impl<S: RunSource> RunSource for Part<S> {
-    ghost rows = { λ s. part_rows S.RunSource.rows s };
-
-    ghost within = { λ s. few-part s.left _ (S.RunSource.within s.source) };
+    ghost rows = { λ s. part_rows S.rows s };
 
     fn next_run(&mut self) -> Option<RowSelector> {
         if self.left == 0 {
             return None;
         }
-        let Some(run) = self.source.next_run() else {
-            return None;
-        };
+        let run = self.source.next_run()?;
         let n = run.row_count.min(self.left);
         self.left -= n;
         Some(RowSelector {
@@ -45,22 +40,16 @@ impl<S: RunSource> RunSource for Part<S> {
             skip: run.skip,
         })
     }
-}
 
-impl<S: RunSource> Pieces for Part<S> {
-    ghost rows = { λ s. part_rows S.RunSource.rows s };
-
-    fn piece(&mut self) -> Option<RowSelector> {
-        self.next_run()
-    }
+    ghost within = { λ s. few-part s.left _ (S.within s.source) };
 }
 
 // How many rows of a source are selected, run by run.
 fn count_selected<S: RunSource>(source: S) -> usize
-    ensures { result ≡ selected_count (S.RunSource.rows source) }
+    ensures { result ≡ selected_count (S.rows source) }
 {
     let mut rest = source;
-    let mut n: usize = 0;
+    let mut n = 0;
     while let Some(run) = rest.next_run() {
         n += run.selected();
     }
@@ -69,11 +58,11 @@ fn count_selected<S: RunSource>(source: S) -> usize
 
 // How many rows a source has up to and with the last selected one.
 fn up_to_last<S: RunSource>(source: S) -> usize
-    ensures { result ≡ length (trimmed (S.RunSource.rows source)) }
+    ensures { result ≡ length (trimmed (S.rows source)) }
 {
     let mut rest = source;
-    let mut at: usize = 0;
-    let mut last: usize = 0;
+    let mut at = 0;
+    let mut last = 0;
     while let Some(run) = rest.next_run() {
         at += run.row_count;
         if !run.skip {

@@ -16,30 +16,19 @@ pub struct Rest<S> {
 impl<S: RunSource> Rest<S> {
     // The rows after the first n; none where there are no more.
     pub fn new(source: S, n: usize) -> Rest<S>
-        ensures { held_rows S.RunSource.rows result.rows ≡ drop n (S.RunSource.rows source) }
+        ensures { held_rows S.rows result.rows ≡ drop n (S.rows source) }
     {
         let mut rows = Held::new(source);
-        let mut left = n;
-        while left > 0 {
-            if !rows.fill() {
-                return Rest { rows };
-            }
-            let m = rows.run.row_count.min(left);
-            rows.take(m);
-            left -= m;
-        }
+        rows.pass(n);
         Rest { rows }
     }
 }
 
 impl<S: RunSource> Pieces for Rest<S> {
-    ghost rows = { λ s. held_rows S.RunSource.rows s.rows };
+    ghost rows = { λ s. held_rows S.rows s.rows };
 
     fn piece(&mut self) -> Option<RowSelector> {
-        if !self.rows.fill() {
-            return None;
-        }
-        let run = self.rows.run;
+        let run = self.rows.peek()?;
         self.rows.take(run.row_count);
         Some(run)
     }

@@ -1,9 +1,8 @@
 // offset on a run list: one run of skips, what is left of the run where the cut falls, and the runs after it as they are.
-ghost use Rattle.std.specs.Prelude.{◌≡◌, ◌≤◌, true, false, ◌++◌, replicate, MatchOption, MatchResult};
-ghost use Rattle.refusals.specs.Refusals.{verdict};
+ghost use Rattle.std.specs.Prelude.{◌≡◌, ◌≤◌, true, false, ◌++◌, replicate, MatchOption};
 ghost use Rattle.rows.specs.Rows.{run_rows, selected_count};
 ghost use Rattle.rows.specs.Rules.{offset};
-ghost use Rattle.runs.specs.Sinks.{placed};
+ghost use Rattle.runs.specs.Sinks.{Delivers};
 ghost use Rattle.cuts.specs.Cutting.{CutAt};
 
 use refusals::fault::SelectionFault;
@@ -60,8 +59,8 @@ fn find_split(list: RunList, n: usize) -> Option<Cut>
     ensures { MatchOption result (selected_count (run_rows list.entry.runs.now) ≤ n) (λ c. CutAt n list.entry.runs.now c.run c.skipped c.selected) }
 {
     let runs = list.runs();
-    let mut skipped: usize = 0;
-    let mut selected: usize = 0;
+    let mut skipped = 0;
+    let mut selected = 0;
     for (run, selector) in runs.iter().enumerate() {
         if selector.skip {
             skipped += selector.row_count;
@@ -81,16 +80,14 @@ fn find_split(list: RunList, n: usize) -> Option<Cut>
 
 // The same as `offset` over any source, by the runs of the list.
 pub fn offset_runs<K: RowSink>(list: RunList, n: usize, out: &mut K) -> Result<(), SelectionFault>
-    ensures verdict { verdict result ≡ placed K.RowSink.layer K.RowSink.cost (K.RowSink.capacity out.old) (offset n (run_rows list.entry.runs.now)) }
-    ensures written { MatchResult result (λ _. K.RowSink.rows out.new ≡ offset n (run_rows list.entry.runs.now)) (λ _. out.new ≡ out.old) }
-    ensures rest { K.RowSink.keeps out.old out.new }
+    ensures { Delivers K.sink out.old (offset n (run_rows list.entry.runs.now)) result out.new }
 {
     if n == 0 {
         return convert(list, out);
     }
     let runs = list.runs();
     let Some(split) = find_split(list, n) else {
-        return deliver(RawRuns::new(&[]), out);
+        return convert(RunList::empty(), out);
     };
     let rest = Tail {
         skipped: split.skipped + n,

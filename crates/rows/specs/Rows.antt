@@ -1,5 +1,5 @@
 -- Rows and runs. A selection is a list of row marks, true where the row is selected and false where it is skipped; row 0 stands first.
-use Rattle.std.specs.Prelude.{◌≡◌, ℕ, suc, ◌+◌, Bool, true, false, cond, not, ◌&&◌, List, [], ◌∷◌, ◌++◌, take, replicate, Some, None, Option, nat_lt}
+use Rattle.std.specs.Prelude.{◌≡◌, ℕ, suc, ◌+◌, Bool, true, false, cond, not, ◌&&◌, ◌||◌, List, [], ◌∷◌, ◌++◌, take, replicate, Some, None, Option, nat_lt}
 use Rattle.rows.specs.declared.selector.RowSelector.{RowSelector}
 
 -- the most rows that a selection may have
@@ -21,6 +21,11 @@ abbrev pub chosen : ℕ → List Bool → List ℕ
 chosen k [] = []
 chosen k (true ∷ xs) = k ∷ chosen (suc k) xs
 chosen k (false ∷ xs) = chosen (suc k) xs
+
+-- some row is selected
+abbrev pub any_row : List Bool → Bool
+any_row [] = false
+any_row (x ∷ xs) = x || any_row xs
 
 -- the two marks are alike
 abbrev pub same : Bool → Bool → Bool

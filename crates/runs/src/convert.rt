@@ -1,4 +1,5 @@
 // The rows of a source, unaltered, in whatever form a sink has.
+ghost use Rattle.std.specs.Prelude.{◌≡◌};
 ghost use Rattle.runs.specs.Sinks.{Delivers};
 
 use crate::deliver::deliver;
@@ -14,6 +15,14 @@ pub struct Unaltered<S> {
     source: S,
 }
 
+impl<S: RunSource> Unaltered<S> {
+    pub fn new(source: S) -> Unaltered<S>
+        ensures { S.rows result.source ≡ S.rows source }
+    {
+        Unaltered { source }
+    }
+}
+
 impl<S: RunSource> Pieces for Unaltered<S> {
     ghost rows = { λ s. S.rows s.source };
 
@@ -26,5 +35,5 @@ impl<S: RunSource> Pieces for Unaltered<S> {
 pub fn convert<S: RunSource, K: RowSink>(source: S, out: &mut K) -> Result<(), SelectionFault>
     ensures { Delivers K.sink out.old (S.rows source) result out.new }
 {
-    deliver(Unaltered { source }, out)
+    deliver(Unaltered::new(source), out)
 }

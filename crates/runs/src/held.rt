@@ -1,5 +1,6 @@
 // A source with a run begun: what is left of that run comes before the source's rows.
-ghost use Rattle.std.specs.Prelude.{◌≡◌, ◌≤◌, not, ◌++◌, replicate};
+ghost use Rattle.std.specs.Prelude.{◌≡◌, ◌≤◌, not, ◌++◌, take, drop, replicate};
+ghost use Rattle.rows.specs.Rows.{any_row};
 ghost use Rattle.runs.specs.HeldRows.{held_rows};
 ghost use Rattle.runs.specs.Steps.{Ready};
 
@@ -44,5 +45,24 @@ impl<S: RunSource> Held<S> {
         ensures { replicate n (not self.old.run.skip) ++ held_rows S.rows self.new ≡ held_rows S.rows self.old }
     {
         self.run.row_count -= n;
+    }
+
+    // Removes the first n rows, or all where there are fewer; whether one of them was selected.
+    pub fn pass(&mut self, n: usize) -> bool
+        ensures any { result ≡ any_row (take n (held_rows S.rows self.old)) }
+        ensures rest { held_rows S.rows self.new ≡ drop n (held_rows S.rows self.old) }
+    {
+        let mut left = n;
+        let mut found = false;
+        while left > 0 {
+            let Some(run) = self.peek() else {
+                break;
+            };
+            let m = left.min(run.row_count);
+            self.take(m);
+            left -= m;
+            found |= !run.skip;
+        }
+        found
     }
 }

@@ -11,7 +11,7 @@ fewer g c = piece-selected _ (g.S.RunSource.rows c.next_run.new.self) c.in-Some.
 pub overflow_add-n : goal.overflow_add-n
 overflow_add-n g c =
     let xs = g.S.RunSource.rows c.args.source in
-    omega (arith, fewer g (goal.at.overflow_add-n g c).In-Some, c.selected-n.ensures, c.loop-run.invariant, selected-le xs, g.S.RunSource.within c.args.source)
+    omega (arith, fewer g (goal.at.overflow_add-n g c).In-Some, c.selected-n.ensures, c.loop-run.invariant, selected-le xs, g.met.S.RunSource.within c.args.source)
 
 pub loop-run-smaller : goal.loop-run-smaller
 loop-run-smaller g c = omega (arith, piece-length _ (g.S.RunSource.rows c.next_run.new.self) c.in-Some.run'.row_count (not c.in-Some.run'.skip) c.in-Some.ensures.1, c.in-Some.ensures.0)

@@ -10,7 +10,7 @@ shorter : (g : given.Over) (c : In-Some g) → length (g.S.RunSource.rows c.loop
 shorter g c = piece-length _ (g.S.RunSource.rows c.next_run.new.self) c.in-Some.run'.row_count (not c.in-Some.run'.skip) c.in-Some.ensures.1
 
 pub overflow_add-at : goal.overflow_add-at
-overflow_add-at g c = omega (arith, shorter g (goal.at.overflow_add-at g c).In-Some, c.loop-run.invariant.0, g.S.RunSource.within c.args.source)
+overflow_add-at g c = omega (arith, shorter g (goal.at.overflow_add-at g c).In-Some, c.loop-run.invariant.0, g.met.S.RunSource.within c.args.source)
 
 pub loop-run-smaller-then-not-run : goal.loop-run-smaller-then-not-run
 loop-run-smaller-then-not-run g c = omega (arith, shorter g (goal.at.loop-run-smaller-then-not-run g c).In-Some, c.in-Some.ensures.0)

@@ -13,13 +13,13 @@ pub overflow_add-skipped : goal.overflow_add-skipped
 overflow_add-skipped c =
     let s = c.args.list in
     let same = ap (λ r. length (run_rows r)) c.runs-runs.ensures.0 in
-    omega (arith, c.loop-run.invariant.1, step-length c.runs-runs.result.now c.loop-run.run none c.loop-run-test.true, same, s.counted, s.within)
+    omega (arith, c.loop-run.invariant.1, step-length c.runs-runs.result.now c.loop-run.run none c.loop-run-test.true, same, s.list.counted, s.list.within)
 
 pub overflow_add-selected : goal.overflow_add-selected
 overflow_add-selected c =
     let s = c.args.list in
     let same = ap (λ r. length (run_rows r)) c.runs-runs.ensures.0 in
-    omega (arith, c.loop-run.invariant.1, step-length c.runs-runs.result.now c.loop-run.run none c.loop-run-test.true, same, s.counted, s.within)
+    omega (arith, c.loop-run.invariant.1, step-length c.runs-runs.result.now c.loop-run.run none c.loop-run-test.true, same, s.list.counted, s.list.within)
 
 pub loop-run-preserved-then-selector : goal.loop-run-preserved-then-selector
 loop-run-preserved-then-selector c =

@@ -1,19 +1,13 @@
-use Rattle.std.proofs.Common.{◌-◌, not, [], ◌++◌, take, replicate, sym, ap, ◌∙◌, arith, take_all}
+use Rattle.std.proofs.Common.{◌-◌, not, ◌++◌, take, replicate, sym, ap, ◌∙◌, arith}
 use Rattle.cuts.proofs.Pieces.{part-run, not-first-part}
 use Rattle.cuts.proofs.part.PartRunSource.next_run.Goals as goal
-
-pub returns-in_default : goal.returns-in_default
-returns-in_default g c =
-    let n = c.args.self.now.left in
-    let none = take_all n [] (omega arith) in
-    (ap (take n) c.in_default.ensures.0 ∙ none, ap (take n) c.in_default.ensures.1 ∙ none)
 
 pub returns : goal.returns
 returns g c =
     let s = c.args.self.now in
-    let run = c.in-Some.run' in
+    let run = c.in_ok-run.run' in
     let left = g.S.RunSource.rows c.next_run.new.self in
-    let step = c.in-Some.ensures in
+    let step = c.in_ok-run.ensures in
     let n = c.min-n.ensures in (
       omega (arith, n, step.0, c.if-self-eq0.false),
       ap (take s.left) step.1 ∙ part-run s.left run.row_count (not run.skip) left ∙ ap (λ k. replicate k (not run.skip) ++ take (s.left - k) left) (sym n),
