@@ -1,5 +1,5 @@
 -- What a mask says: its rows, when making one is refused, and what the searches in it answer.
-use Rattle.std.specs.Prelude.{ℕ, ◌+◌, ◌-◌, ◌*◌, Bool, false, cond, List, length, drop, Some, None, Ok, Option, Result, ◌==◌, nat_lt, slice_index_or}
+use Rattle.std.specs.Prelude.{ℕ, ◌+◌, ◌-◌, ◌*◌, Bool, false, cond, List, length, drop, Some, None, Ok, Err, Option, Result, ◌==◌, nat_lt, slice_index_or}
 use Rattle.refusals.specs.declared.refusal.Refusal.{Refusal}
 use Rattle.refusals.specs.Refusals.{refused, selection, bits}
 use Rattle.rows.specs.Rows.{row_limit}
@@ -11,6 +11,11 @@ use Rattle.bits.specs.Bits.{mask_rows}
 -- the rows of a mask
 abbrev pub rows : Mask → List Bool
 rows m = mask_rows m.bytes.now m.offset m.len
+
+-- whether a call was refused, without its answer
+abbrev pub answered : {X E : Type 0} → Result X E → Result (Unit {0}) E
+answered (Ok x) = Ok tt
+answered (Err e) = Err e
 
 -- rows that lie in their bytes: refused by 2, at the number of rows that the bytes allow from the offset on
 abbrev pub within_verdict : List ℕ → ℕ → ℕ → Result (Unit {0}) Refusal

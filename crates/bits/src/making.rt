@@ -1,9 +1,9 @@
 // Making a mask, its parts, and the rows that it has.
-ghost use Rattle.std.specs.Prelude.{◌≡◌, ◌≤◌, [], length, take, drop, is_ok, if◌then◌else◌};
+ghost use Rattle.std.specs.Prelude.{◌≡◌, ◌≤◌, length, take, drop, IfOk};
 ghost use Rattle.refusals.specs.Refusals.{verdict, bits_verdict};
 ghost use Rattle.rows.specs.Rows.{row_limit};
 ghost use Rattle.bits.specs.Bits.{mask_rows};
-ghost use Rattle.bits.specs.Masks.{rows, within_verdict, mask_verdict, value_at};
+ghost use Rattle.bits.specs.Masks.{rows, answered, within_verdict, mask_verdict, value_at};
 
 use crate::mask::Mask;
 use crate::word::bit_at;
@@ -45,31 +45,18 @@ impl<'a> Mask<'a> {
         Ok(())
     }
 
-    // The mask of these rows, with the verdict; a refused one has no rows.
-    pub fn new(bytes: &'a [u8], offset: usize, len: usize) -> (Mask<'a>, Result<(), SelectionFault>)
-        ensures verdict { verdict result.1 ≡ mask_verdict bytes.now offset len }
-        ensures rows { rows result.0 ≡ (if is_ok result.1 then mask_rows bytes.now offset len else []) }
+    // The mask of these rows.
+    pub fn new(bytes: &'a [u8], offset: usize, len: usize) -> Result<Mask<'a>, SelectionFault>
+        ensures verdict { verdict (answered result) ≡ mask_verdict bytes.now offset len }
+        ensures rows { IfOk result (λ m. rows m ≡ mask_rows bytes.now offset len) }
     {
-        let checked = Mask::check(bytes, offset, len);
-        if checked.is_err() {
-            return (
-                Mask {
-                    bytes,
-                    offset: 0,
-                    len: 0,
-                },
-                checked,
-            );
-        }
+        Mask::check(bytes, offset, len)?;
         let near = &bytes[offset / 8..];
-        (
-            Mask {
-                bytes: near,
-                offset: offset % 8,
-                len,
-            },
-            checked,
-        )
+        Ok(Mask {
+            bytes: near,
+            offset: offset % 8,
+            len,
+        })
     }
 
     // How many rows it has.
