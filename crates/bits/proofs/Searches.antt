@@ -1,10 +1,14 @@
 -- Laws of the searches: leading stretches, trimmed ends and the n-th selected row. Assumes nothing.
-use Rattle.std.proofs.Common.{◌≡◌, ℕ, zero, suc, ◌+◌, ◌-◌, ◌<◌, ◌≤◌, Bool, true, false, cond, not, List, [], ◌∷◌, ◌++◌, length, refl, ap, ◌∙◌, ap₂, arith}
+use Rattle.std.proofs.Common.{◌≡◌, ℕ, zero, suc, ◌+◌, ◌-◌, ◌<◌, ◌≤◌, Bool, true, false, cond, not, List, [], ◌∷◌, ◌++◌, length, take, drop, replicate, eqb, Some, None, sym, refl, ap, ◌∙◌, ap₂, arith, take-append-drop}
+use Rattle.std.proofs.lemmas.Bool.{true≢false, eqb-true}
 use Rattle.rows.specs.Rows.{same, selected_count}
+use Rattle.rows.specs.Said.{Selects}
+use Rattle.rows.proofs.Counts.{selected-append}
 use Rattle.rows.specs.Rules.{keep_front, trimmed, nth_end}
 use Rattle.rows.specs.Chunks.{leading}
-use Rattle.bits.specs.Bits.{rows_of}
-use Rattle.bits.proofs.RowLaws.{rows-parts, length-rows}
+use Rattle.bits.specs.Bits.{bit_at, rows_of, word_rows}
+use Rattle.bits.specs.Masks.{last_selected}
+use Rattle.bits.proofs.RowLaws.{rows-parts, rows_alike, length-rows}
 
 -- ---- how many rows at the start have one mark
 
@@ -39,22 +43,29 @@ keep-none : (zs : List Bool) → length zs ≡ 0 → length (keep_front false zs
 keep-none [] e = refl
 keep-none (z ∷ zs) e = absurd (omega arith)
 
-pub trimmed-is : (f : ℕ → Bool) (a n k : ℕ) → k ≤ n → (0 < k → f (a + (k - 1)) ≡ true) → ((j : ℕ) → a + k ≤ j → j < a + n → f j ≡ false) → length (trimmed (rows_of f a n)) ≡ k
-unfolding rows_of
-trimmed-is f a zero zero l h s = refl
-trimmed-is f a zero (suc k) l h s = absurd (omega arith)
-trimmed-is f a (suc n) zero l h s =
-    ap (λ (b : Bool). length (keep_front b (trimmed (rows_of f (a + 1) n)))) (s a (omega arith) (omega arith))
-    ∙ keep-none (trimmed (rows_of f (a + 1) n)) (trimmed-is f (a + 1) n 0 (omega arith) (λ t. absurd (omega arith)) (λ j i t. s j (omega arith) (omega arith)))
-trimmed-is f a (suc n) (suc zero) l h s =
-    let e : f a ≡ true = ap f (let d : a ≡ a + (suc zero - 1) = omega arith in d) ∙ h (omega arith) in
-    ap (λ (b : Bool). length (keep_front b (trimmed (rows_of f (a + 1) n)))) e
-    ∙ ap suc (trimmed-is f (a + 1) n 0 (omega arith) (λ t. absurd (omega arith)) (λ j i t. s j (omega arith) (omega arith)))
-trimmed-is f a (suc n) (suc (suc k)) l h s =
-    let ih : length (trimmed (rows_of f (a + 1) n)) ≡ suc k =
-    trimmed-is f (a + 1) n (suc k) (omega arith) (λ t. ap f (let d : a + 1 + (suc k - 1) ≡ a + (suc (suc k) - 1) = omega arith in d) ∙ h (omega arith))
-    (λ j i t. s j (omega arith) (omega arith)) in
-    keep-length (f a) (trimmed (rows_of f (a + 1) n)) (omega arith) ∙ ap suc ih
+none-selected : (xs : List Bool) → ((k : ℕ) → Selects xs k ≡ false) → length (trimmed xs) ≡ 0
+none-selected [] h = refl
+none-selected (x ∷ xs) h = ap (λ (b : Bool). length (keep_front b (trimmed xs))) (h 0) ∙ keep-none (trimmed xs) (none-selected xs (λ k. h (suc k)))
+
+last-row : (xs : List Bool) (i : ℕ) → Selects xs i ≡ true → ((k : ℕ) → i < k → Selects xs k ≡ false) → length (trimmed xs) ≡ suc i
+last-row [] i h s = absurd (true≢false (sym h))
+last-row (x ∷ xs) zero h s = ap (λ (b : Bool). length (keep_front b (trimmed xs))) h ∙ ap suc (none-selected xs (λ k. s (suc k) (omega arith)))
+last-row (x ∷ xs) (suc i) h s =
+    let ih : length (trimmed xs) ≡ suc i = last-row xs i h (λ k l. s (suc k) (omega arith)) in
+    keep-length x (trimmed xs) (omega arith) ∙ ap suc ih
+
+pub last-none : (xs : List Bool) → ((k : ℕ) → Selects xs k ≡ false) → last_selected xs ≡ None
+last-none xs h = ap (λ (n : ℕ). cond (eqb n 0) None (Some (n - 1))) (none-selected xs h)
+
+pub last-is : (xs : List Bool) (i : ℕ) → Selects xs i ≡ true → ((k : ℕ) → i < k → Selects xs k ≡ false) → last_selected xs ≡ Some i
+last-is xs i h s = go (eqb (length (trimmed xs)) 0) refl
+  where
+    n : length (trimmed xs) ≡ suc i
+    n = last-row xs i h s
+
+    go : (b : Bool) → eqb (length (trimmed xs)) 0 ≡ b → last_selected xs ≡ Some i
+    go true e = absurd (omega (arith, n, eqb-true (length (trimmed xs)) 0 e))
+    go false e = ap (λ (b : Bool). cond b None (Some (length (trimmed xs) - 1))) e ∙ ap Some (omega (arith, n))
 
 -- ---- the n-th selected row
 
@@ -104,3 +115,40 @@ nth-le zero xs = omega arith
 nth-le (suc n) [] = omega arith
 nth-le (suc n) (true ∷ xs) = omega (arith, nth-le n xs)
 nth-le (suc n) (false ∷ xs) = omega (arith, nth-le (suc n) xs)
+
+-- ---- a word of the rows ys, as far as they go
+
+skipped-count : (m : ℕ) → selected_count (replicate m false) ≡ 0
+skipped-count zero = refl
+skipped-count (suc m) = skipped-count m
+
+-- n rows of which the first are ys and the others are skipped
+padded : (f : ℕ → Bool) (a n : ℕ) (ys : List Bool) → ((k : ℕ) → k < n → f (a + k) ≡ Selects ys k) → rows_of f a n ≡ take n ys ++ replicate (n - length ys) false
+unfolding rows_of
+padded f a zero ys h = ap (λ (k : ℕ). replicate k false) (let e : 0 ≡ 0 - length ys = omega arith in e)
+padded f a (suc n) [] h =
+    rows_alike f false a (suc n) (λ k l t. ap f (let e : k ≡ a + (k - a) = omega arith in e) ∙ h (k - a) (omega arith))
+    ∙ ap (λ (k : ℕ). replicate k false) (let e : suc n ≡ suc n - 0 = omega arith in e)
+padded f a (suc n) (y ∷ ys) h =
+    ap₂ (λ (x : Bool) (xs : List Bool). x ∷ xs)
+    (ap f (let e : a ≡ a + 0 = omega arith in e) ∙ h 0 (omega arith))
+    (padded f (a + 1) n ys (λ k l. ap f (let e : a + 1 + k ≡ a + suc k = omega arith in e) ∙ h (suc k) (omega arith))
+    ∙ ap (λ (k : ℕ). take n ys ++ replicate k false) (let e : n - length ys ≡ suc n - suc (length ys) = omega arith in e))
+
+module _ (w : ℕ) (ys : List Bool) (same : (k : ℕ) → k < 64 → bit_at w k ≡ Selects ys k) where
+  in-word : word_rows w 64 ≡ take 64 ys ++ replicate (64 - length ys) false
+  in-word = padded (bit_at w) 0 64 ys (λ k h. ap (bit_at w) (let e : 0 + k ≡ k = omega arith in e) ∙ same k h)
+
+  word-count : selected_count (word_rows w 64) ≡ selected_count (take 64 ys)
+  word-count = omega (arith, ap selected_count in-word, selected-append (take 64 ys) (replicate (64 - length ys) false), skipped-count (64 - length ys))
+
+  pub word-here : (n : ℕ) → n ≤ selected_count (word_rows w 64) → nth_end n ys ≡ nth_end n (word_rows w 64)
+  word-here n h =
+      ap (nth_end n) (sym (take-append-drop 64 ys)) ∙ nth-front n (take 64 ys) (drop 64 ys) (omega (arith, word-count))
+      ∙ sym (ap (nth_end n) in-word ∙ nth-front n (take 64 ys) (replicate (64 - length ys) false) (omega (arith, word-count)))
+
+  pub word-later : (n : ℕ) → selected_count (word_rows w 64) < n
+      → nth_end n ys ≡ length (take 64 ys) + nth_end (n - selected_count (word_rows w 64)) (drop 64 ys)
+  word-later n h =
+      ap (nth_end n) (sym (take-append-drop 64 ys)) ∙ nth-skip n (take 64 ys) (drop 64 ys) (omega (arith, word-count))
+      ∙ ap (λ (k : ℕ). length (take 64 ys) + nth_end (n - k) (drop 64 ys)) (sym word-count)

@@ -1,79 +1,113 @@
--- Laws of a step of a walk over the selected rows. Assumes nothing.
-use Rattle.std.proofs.Common.{◌≡◌, ℕ, zero, suc, ◌+◌, ◌-◌, ◌<◌, ◌≤◌, Bool, true, false, ◌⊎◌, List, [], ◌∷◌, ◌++◌, drop, replicate, sym, refl, ap, ◌∙◌, subst, ap₂, inl, inr, arith}
-use Rattle.std.proofs.lemmas.Bool.{cases_lt, both_ways}
+-- Laws of leading stretches, and of a step of a walk over the selected rows. Assumes nothing.
+use Rattle.std.proofs.Common.{◌≡◌, ℕ, suc, ◌+◌, ◌-◌, ◌<◌, ◌≤◌, Bool, true, false, cond, not, ltb, List, [], ◌∷◌, ◌++◌, length, get_or, drop, replicate, Some, None, sym, refl, ap, ◌∙◌, subst, ap₂, arith}
+use Rattle.std.proofs.lemmas.List.{drop-drop, drop_more}
+use Rattle.std.proofs.lemmas.Bool.{lt-ltb, ltb-true, true≢false}
 use Rattle.rows.specs.Rows.{selected_count, chosen, NotFirst}
+use Rattle.rows.specs.Chunks.{leading}
 use Rattle.bits.specs.Bits.{rows_of}
+use Rattle.bits.specs.Masks.{value_at, next_change}
 use Rattle.bits.specs.Walks.{Spanned}
-use Rattle.bits.proofs.RowLaws.{rows_drop, rows-parts, rows_alike, rows-cons, rows-nil}
+use Rattle.bits.proofs.RowLaws.{rows_drop}
+use Rattle.bits.proofs.Searches.{leading-is}
 
-skipped-count : (m : ℕ) → selected_count (replicate m false) ≡ 0
-skipped-count zero = refl
-skipped-count (suc m) = skipped-count m
+-- rows by their leading stretch of the mark b
+pub leads : (b : Bool) (xs : List Bool) → xs ≡ replicate (leading b xs) b ++ drop (leading b xs) xs
+leads b [] = refl
+leads true (true ∷ xs) = ap (λ l. true ∷ l) (leads true xs)
+leads true (false ∷ xs) = refl
+leads false (false ∷ xs) = ap (λ l. false ∷ l) (leads false xs)
+leads false (true ∷ xs) = refl
 
-skipped-chosen : (k m : ℕ) → chosen k (replicate m false) ≡ []
-skipped-chosen k zero = refl
-skipped-chosen k (suc m) = skipped-chosen (suc k) m
+pub stops : (b : Bool) (xs : List Bool) → NotFirst b (drop (leading b xs) xs)
+stops b [] = tt
+stops true (true ∷ xs) = stops true xs
+stops true (false ∷ xs) = λ e. true≢false (sym e)
+stops false (false ∷ xs) = stops false xs
+stops false (true ∷ xs) = λ e. true≢false e
 
-chosen-skip : (k m : ℕ) (xs : List Bool) → chosen k (replicate m false ++ xs) ≡ chosen (k + m) xs
-chosen-skip k zero xs = ap (λ (x : ℕ). chosen x xs) (let e : k ≡ k + 0 = omega arith in e)
-chosen-skip k (suc m) xs = chosen-skip (suc k) m xs ∙ ap (λ (x : ℕ). chosen x xs) (let e : suc k + m ≡ k + suc m = omega arith in e)
+-- the end r of the stretch of the mark b from row p on, of n rows from place o on
+pub stretch-is : (f : ℕ → Bool) (b : Bool) (o n p r : ℕ) → p ≤ r → r ≤ n → ((k : ℕ) → o + p ≤ k → k < o + r → f k ≡ b) → (r < n → f (o + r) ≡ not b)
+    → r ≡ p + leading b (drop p (rows_of f o n))
+stretch-is f b o n p r l m alike ends =
+    let e : leading b (drop p (rows_of f o n)) ≡ r - p =
+    ap (leading b) (rows_drop f o n p (omega arith))
+    ∙ leading-is f b (o + p) (n - p) (r - p) (omega arith) (λ k i j. alike k i (omega arith))
+    (λ t. ap f (let d : o + p + (r - p) ≡ o + r = omega arith in d) ∙ ends (omega arith)) in
+    omega arith
 
-unselected : (f : ℕ → Bool) (a n : ℕ) → (0 < n → f a ≡ false) → NotFirst true (rows_of f a n)
-unselected f a zero h = subst (NotFirst true) (sym (rows-nil f a 0 refl)) tt
-unselected f a (suc n) h = subst (NotFirst true) (sym (rows-cons f a (suc n) n refl)) (λ e. both_ways (f a) (h (omega arith)) e)
+-- row i has the mark b
+module _ (xs : List Bool) (i : ℕ) (b : Bool) (here : value_at xs i ≡ Some b) where
+  pub has-row : i < length xs
+  has-row = go (ltb i (length xs)) refl
+    where
+      go : (t : Bool) → ltb i (length xs) ≡ t → i < length xs
+      go true e = ltb-true i (length xs) e
+      go false e = absurd (let f : None ≡ Some b = sym (ap (λ t. cond t (Some (get_or xs i false)) None) e) ∙ here in let z : ◌≡◌ {A = ℕ} 0 1 = cc in omega arith)
 
--- n rows from place o on, of which those from row p on are left
-module _ (f : ℕ → Bool) (o n p : ℕ) (inside : p ≤ n) where
-  -- no selected row is left
-  module _ (skipped : (k : ℕ) → o + p ≤ k → k < o + n → f k ≡ false) where
-    all-skipped : drop p (rows_of f o n) ≡ replicate (n - p) false
-    all-skipped = rows_drop f o n p inside ∙ rows_alike f false (o + p) (n - p) (λ k i j. skipped k i (omega arith))
+  pub change-is : next_change xs i ≡ i + leading b (drop i xs)
+  change-is =
+      let inside = lt-ltb i (length xs) has-row in
+      let f : Some (get_or xs i false) ≡ Some b = sym (ap (λ t. cond t (Some (get_or xs i false)) None) inside) ∙ here in
+      let mark : get_or xs i false ≡ b = cc in
+      ap (λ t. cond t (i + leading (get_or xs i false) (drop i xs)) (length xs)) inside ∙ ap (λ c. i + leading c (drop i xs)) mark
 
-    pub no_span : selected_count (drop p (rows_of f o n)) ≡ 0
-    no_span = ap selected_count all-skipped ∙ skipped-count (n - p)
+-- there is no row i
+pub no-change : (xs : List Bool) (i : ℕ) → value_at xs i ≡ None → next_change xs i ≡ length xs
+no-change xs i here = go (ltb i (length xs)) refl
+  where
+    go : (t : Bool) → ltb i (length xs) ≡ t → next_change xs i ≡ length xs
+    go true e = absurd (let f : Some (get_or xs i false) ≡ None = sym (ap (λ t. cond t (Some (get_or xs i false)) None) e) ∙ here in let z : ◌≡◌ {A = ℕ} 0 1 = cc in omega arith)
+    go false e = ap (λ t. cond t (i + leading (get_or xs i false) (drop i xs)) (length xs)) e
 
-    pub no_index : chosen p (drop p (rows_of f o n)) ≡ []
-    no_index = ap (chosen p) all-skipped ∙ skipped-chosen p (n - p)
+chosen-first : (k : ℕ) (xs : List Bool) → chosen k xs ≡ chosen (k + leading false xs) (drop (leading false xs) xs)
+chosen-first k [] = refl
+chosen-first k (true ∷ xs) = ap (λ x. chosen x (true ∷ xs)) (let e : k ≡ k + 0 = omega arith in e)
+chosen-first k (false ∷ xs) = chosen-first (suc k) xs ∙ ap (λ x. chosen x (drop (leading false xs) xs)) (let e : suc k + leading false xs ≡ k + suc (leading false xs) = omega arith in e)
 
-  pub none_left : drop n (rows_of f o n) ≡ []
-  none_left = rows_drop f o n n (omega arith) ∙ rows-nil f (o + n) (n - n) (omega arith)
+count-first : (xs : List Bool) → selected_count xs ≡ selected_count (drop (leading false xs) xs)
+count-first [] = refl
+count-first (true ∷ xs) = refl
+count-first (false ∷ xs) = count-first xs
 
-  -- the first selected row that is left stands at place a
-  module _ (a : ℕ) (from : o + p ≤ a) (before : a < o + n) (skipped : (k : ℕ) → o + p ≤ k → k < a → f k ≡ false) (first : f a ≡ true) where
-    to-first : drop p (rows_of f o n) ≡ replicate (a - o - p) false ++ rows_of f a (o + n - a)
-    to-first =
-        rows_drop f o n p inside ∙ rows-parts f (o + p) (a - o - p) (o + n - a) a (n - p) (omega arith) (omega arith)
-        ∙ ap (λ (xs : List Bool). xs ++ rows_of f a (o + n - a)) (rows_alike f false (o + p) (a - o - p) (λ k i j. skipped k i (omega arith)))
+first-row : (x : Bool) (xs : List Bool) → NotFirst false (x ∷ xs) → x ≡ true
+first-row true xs h = refl
+first-row false xs h = absurd (h refl)
 
-    pub next-index : chosen p (drop p (rows_of f o n)) ≡ (a - o) ∷ chosen (a - o + 1) (drop (a - o + 1) (rows_of f o n))
-    next-index =
-        ap (chosen p) to-first ∙ chosen-skip p (a - o - p) (rows_of f a (o + n - a))
-        ∙ ap₂ chosen (let e : p + (a - o - p) ≡ a - o = omega arith in e)
-        (rows-cons f a (o + n - a) (o + n - a - 1) (omega arith) ∙ ap (λ (b : Bool). b ∷ rows_of f (a + 1) (o + n - a - 1)) first)
-        ∙ ap₂ (λ (k : ℕ) (xs : List Bool). (a - o) ∷ chosen k xs) (let e : suc (a - o) ≡ a - o + 1 = omega arith in e)
-        (ap₂ (rows_of f) (let e : a + 1 ≡ o + (a - o + 1) = omega arith in e) (let e : o + n - a - 1 ≡ n - (a - o + 1) = omega arith in e)
-        ∙ sym (rows_drop f o n (a - o + 1) (omega arith)))
+-- the first selected row of xs from row p on is row a, if there is one
+module _ (xs : List Bool) (p a : ℕ) (first : a ≡ p + leading false (drop p xs)) where
+  to-first : drop (leading false (drop p xs)) (drop p xs) ≡ drop a xs
+  to-first = drop-drop (leading false (drop p xs)) p xs ∙ ap (λ k. drop k xs) (sym first)
 
-    -- and the selected rows from there on end at place e
-    pub next-span : (e : ℕ) → a ≤ e → e ≤ o + n → ((k : ℕ) → a ≤ k → k < e → f k ≡ true) → (e < o + n → f e ≡ false)
-        → Spanned p (drop p (rows_of f o n)) (a - o) (e - o) (e - o) (drop (e - o) (rows_of f o n))
-    next-span e l m selected ends = record {
+  indices-from : chosen p (drop p xs) ≡ chosen a (drop a xs)
+  indices-from = chosen-first p (drop p xs) ∙ ap₂ chosen (sym first) to-first
+
+  pub no_index : drop a xs ≡ [] → chosen p (drop p xs) ≡ []
+  no_index e = indices-from ∙ ap (chosen a) e
+
+  pub no_span : drop a xs ≡ [] → selected_count (drop p xs) ≡ 0
+  no_span e = count-first (drop p xs) ∙ ap selected_count (to-first ∙ e)
+
+  module _ (before : a < length xs) where
+    selected : drop a xs ≡ true ∷ drop (a + 1) xs
+    selected =
+        let e = drop_more xs a false before in
+        e ∙ ap (λ x. x ∷ drop (a + 1) xs) (first-row (get_or xs a false) (drop (a + 1) xs) (subst (NotFirst false) (to-first ∙ e) (stops false (drop p xs))))
+
+    pub next-index : chosen p (drop p xs) ≡ a ∷ chosen (a + 1) (drop (a + 1) xs)
+    next-index = indices-from ∙ ap (chosen a) selected ∙ ap (λ k. a ∷ chosen k (drop (a + 1) xs)) (let e : suc a ≡ a + 1 = omega arith in e)
+
+    -- and the selected rows from there on end at row e
+    pub next-span : (e : ℕ) → e ≡ a + leading true (drop a xs) → Spanned p (drop p xs) a e e (drop e xs)
+    next-span e ends = record {
       after = omega arith;
-      some = let h : a < e = longer (cases_lt a e) in omega arith;
+      some = omega (arith, ap (leading true) selected);
       next = refl;
       whole =
-          to-first
-          ∙ ap₂ (λ (k : ℕ) (xs : List Bool). replicate k false ++ xs) (let d : a - o - p ≡ (a - o) - p = omega arith in d)
-          (rows-parts f a (e - a) (o + n - e) e (o + n - a) (omega arith) (omega arith)
-          ∙ ap₂ (λ (xs ys : List Bool). xs ++ ys)
-          (rows_alike f true a (e - a) (λ k i j. selected k i (omega arith)) ∙ ap (λ (k : ℕ). replicate k true) (let d : e - a ≡ (e - o) - (a - o) = omega arith in d))
-          (sym rest));
-      stops = subst (NotFirst true) (sym rest) (unselected f e (o + n - e) (λ h. ends (omega arith)));
+          leads false (drop p xs)
+          ∙ ap₂ (λ k ys. replicate k false ++ ys) (let d : leading false (drop p xs) ≡ a - p = omega arith in d)
+          (to-first ∙ leads true (drop a xs) ∙ ap₂ (λ k ys. replicate k true ++ ys) (let d : leading true (drop a xs) ≡ e - a = omega arith in d) rest);
+      stops = subst (NotFirst true) rest (stops true (drop a xs));
     }
       where
-        longer : (a < e) ⊎ (e ≤ a) → a < e
-        longer (inl h) = h
-        longer (inr h) = absurd (both_ways (f a) (ap f (let d : a ≡ e = omega arith in d) ∙ ends (omega arith)) first)
-
-        rest : drop (e - o) (rows_of f o n) ≡ rows_of f e (o + n - e)
-        rest = rows_drop f o n (e - o) (omega arith) ∙ ap₂ (rows_of f) (let d : o + (e - o) ≡ e = omega arith in d) (let d : n - (e - o) ≡ o + n - e = omega arith in d)
+        rest : drop (leading true (drop a xs)) (drop a xs) ≡ drop e xs
+        rest = drop-drop (leading true (drop a xs)) a xs ∙ ap (λ k. drop k xs) (sym ends)

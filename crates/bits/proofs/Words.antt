@@ -1,8 +1,8 @@
 -- Laws of bytes and words as rows. Assumes nothing.
-use Rattle.std.proofs.Common.{◌≡◌, ℕ, zero, suc, ◌+◌, ◌-◌, ◌*◌, ◌/◌, ◌%◌, ◌^◌, ◌<◌, ◌≤◌, min, Bool, true, false, cond, eqb, ◌≢◌, ◌⊎◌, List, ◌++◌, length, get_or, drop, set, replicate, sym, refl, ap, ◌∙◌, subst, ap₂, inl, inr, lt_of_lt_of_le, mod-lt, add-one, arith, get_or-drop, get_or-set_other, get_or-set_same, pow_pos, pow_mono, shr_lt}
+use Rattle.std.proofs.Common.{◌≡◌, ℕ, zero, suc, ◌+◌, ◌-◌, ◌*◌, ◌/◌, ◌%◌, ◌^◌, ◌<◌, ◌≤◌, min, Bool, false, cond, eqb, ◌≢◌, ◌⊎◌, List, ◌++◌, length, get_or, drop, set, replicate, sym, refl, ap, ◌∙◌, subst, ap₂, inl, inr, lt_of_lt_of_le, mod-lt, add-one, arith, get_or-drop, get_or-set_other, get_or-set_same, pow_pos, pow_mono, shr_lt}
 use lib.Count.{ones, ones_step}
 use Rattle.std.proofs.lemmas.List.{get_or_past}
-use Rattle.std.proofs.lemmas.Bool.{cases_lt, both_ways}
+use Rattle.std.proofs.lemmas.Bool.{cases_lt}
 use Rattle.rows.specs.Rows.{selected_count}
 use Rattle.bits.specs.Bits.{digit, bit_at, row_at, rows_of, mask_rows, word_rows}
 use Rattle.bits.proofs.Digits.{digit_lt, digit-shr, digit_low, digit-past, bit-same, bit-clear, le_of, bytes-all, le-digit, shifted, shifted-low, shifted-high}
@@ -129,14 +129,6 @@ row_word bytes q w n k e h =
 pub low_count : (w low n : ℕ) → n ≤ 64 → low < 2 ^ n → word_rows low n ≡ word_rows w n → selected_count (word_rows low 64) ≡ selected_count (word_rows w n)
 low_count w low n l h e = selected-short n 64 low h l ∙ ap selected_count e
 
--- a number of n digits has no set bit at n or above
-pub used-within : (w n r : ℕ) → w < 2 ^ n → (0 < r → bit_at w (r - 1) ≡ true) → r ≤ n
-used-within w n r h last = go (cases_lt n r)
-  where
-    go : (n < r) ⊎ (r ≤ n) → r ≤ n
-    go (inl l) = absurd (both_ways (bit_at w (r - 1)) (bit-clear w (r - 1) (digit-past w n (r - 1) h (omega arith))) (last (omega arith)))
-    go (inr l) = l
-
 -- ---- a byte written at i
 
 row_new : (xs : List ℕ) (i v k : ℕ) → i < length xs → k / 8 ≡ i → row_at (set xs i v) k ≡ bit_at v (k % 8)
@@ -177,7 +169,7 @@ count-byte bytes a e i from to h k l f t =
 -- ---- the rows from row `at` on as a word, of n rows from place a on
 
 -- a row past the rows is not selected
-past-rows : (f : ℕ → Bool) (a n i : ℕ) → n ≤ i → get_or (rows_of f a n) i false ≡ false
+pub past-rows : (f : ℕ → Bool) (a n i : ℕ) → n ≤ i → get_or (rows_of f a n) i false ≡ false
 past-rows f a n i h = get_or_past (rows_of f a n) i false (omega (arith, length-rows f a n))
 
 -- a word of m digits, which are the rows that are left, as far as a word goes

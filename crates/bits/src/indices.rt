@@ -1,37 +1,35 @@
 // The selected rows of a mask, one by one.
 ghost use Rattle.std.specs.Prelude.{◌≡◌};
-ghost use Rattle.rows.specs.Rows.{chosen};
+ghost use Rattle.std.specs.Iterator.{YieldsFirst, item_count};
 ghost use Rattle.bits.specs.Masks.{rows};
-ghost use Rattle.rows.specs.Items.{Given};
-ghost use Rattle.bits.specs.Walks.{indices_left};
+ghost use Rattle.bits.specs.Walks.{indices_left, indices};
 
 use crate::mask::Mask;
-use crate::search::stretch_end;
-use crate::walks::SetIndices;
+use crate::walks::{RowsLeft, SetIndices};
 
 impl<'a> Mask<'a> {
     // A walk over its selected rows.
     pub fn set_indices(&self) -> SetIndices<'a>
-        ensures first { result.at ≡ 0 }
+        ensures first { result.left.at ≡ 0 }
         ensures all { indices_left result ≡ rows self.now }
     {
-        SetIndices { mask: *self, at: 0 }
+        SetIndices {
+            left: RowsLeft { mask: *self, at: 0 },
+        }
     }
 }
 
-impl<'a> SetIndices<'a> {
-    // The next selected row; none exactly when no selected row is left.
-    pub fn next(&mut self) -> Option<usize>
-        ensures { Given (chosen self.old.at (indices_left self.old)) result (chosen self.new.at (indices_left self.new)) }
-    {
-        let mask = self.mask;
-        let end = mask.offset + mask.len;
-        let first = stretch_end(mask.bytes, mask.offset + self.at, end, false);
-        if first == end {
-            self.at = mask.len;
-            return None;
-        }
-        self.at = first - mask.offset + 1;
-        Some(first - mask.offset)
+impl<'a> Iterator for SetIndices<'a> {
+    type Item = usize;
+
+    // The selected rows in order, and none exactly when no selected row is left.
+    ghost next_gives = { YieldsFirst indices };
+
+    ghost remaining = { item_count indices };
+
+    fn next(&mut self) -> Option<usize> {
+        let row = self.left.first()?;
+        self.left.at = row + 1;
+        Some(row)
     }
 }

@@ -4,6 +4,7 @@
 pub mod count;
 pub mod fill;
 pub mod indices;
+pub mod left;
 pub mod making;
 pub mod mask;
 pub mod mask_word;

@@ -10,25 +10,14 @@ use crate::word::bit_at;
 use refusals::fault::{BitsFault, SelectionFault};
 use rows::limit::ROW_LIMIT;
 
-// Whether `len` rows from bit `offset` on lie in the bytes. The number of bits may pass a usize, so whole bytes are compared first.
+// Whether `len` rows from bit `offset` on lie in the bytes. The number of bits may pass a usize.
 fn within(bytes: &[u8], offset: usize, len: usize) -> Result<(), BitsFault>
-    requires { len ≤ row_limit }
     ensures { bits_verdict result ≡ within_verdict bytes.now offset len }
 {
-    let whole = offset / 8;
-    if bytes.len() <= whole {
-        if len == 0 && offset % 8 == 0 && bytes.len() == whole {
-            return Ok(());
-        }
-        return Err(BitsFault::PastBytes(0));
-    }
-    let rest = bytes.len() - whole;
-    if rest > ROW_LIMIT {
-        return Ok(());
-    }
-    let allowed = rest * 8 - offset % 8;
-    if allowed < len {
-        return Err(BitsFault::PastBytes(allowed));
+    let bits = bytes.len() as u128 * 8;
+    let start = offset as u128;
+    if bits < start + len as u128 {
+        return Err(BitsFault::PastBytes(bits.saturating_sub(start) as usize));
     }
     Ok(())
 }

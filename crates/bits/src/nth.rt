@@ -1,12 +1,12 @@
 // Finding the n-th selected row of a mask: by words, and within a word by halves.
-ghost use Rattle.std.specs.Prelude.{◌≡◌, ◌+◌, ◌^◌, ◌<◌, ◌≤◌};
+ghost use Rattle.std.specs.Prelude.{◌≡◌, ◌<◌, ◌≤◌};
 ghost use Rattle.rows.specs.Rows.{selected_count};
 ghost use Rattle.rows.specs.Rules.{nth_end};
-ghost use Rattle.bits.specs.Bits.{mask_rows, word_rows};
+ghost use Rattle.bits.specs.Bits.{word_rows};
 ghost use Rattle.bits.specs.Masks.{rows};
 
 use crate::mask::Mask;
-use crate::word::{low_bits, rows_word, word_ones};
+use crate::word::{low_bits, word_ones};
 
 // One past the n-th set bit of a word that has so many.
 fn nth_in_word(word: u64, n: usize) -> usize
@@ -32,34 +32,23 @@ fn nth_in_word(word: u64, n: usize) -> usize
     passed + 1
 }
 
-// One past the n-th selected of `len` rows from bit `offset` on.
-fn nth_end(bytes: &[u8], offset: usize, len: usize, n: usize) -> usize
-    requires { offset + len ≤ 2 ^ 31 }
-    ensures { result ≡ nth_end n (mask_rows bytes.now offset len) }
-{
-    if n == 0 {
-        return 0;
-    }
-    let mut passed = 0usize;
-    let mut left = n;
-    while passed < len {
-        let size = (len - passed).min(64);
-        let w = rows_word(bytes, offset + passed, size);
-        let ones = word_ones(w);
-        if left <= ones {
-            return passed + nth_in_word(w, left);
-        }
-        left -= ones;
-        passed += size;
-    }
-    len
-}
-
 impl<'a> Mask<'a> {
     // One past the n-th selected row: 0 for n = 0, and the length where fewer are selected.
     pub fn find_nth_set_bit_position(&self, n: usize) -> usize
         ensures { result ≡ nth_end n (rows self.now) }
     {
-        nth_end(self.bytes, self.offset, self.len, n)
+        if n == 0 {
+            return 0;
+        }
+        let mut left = n;
+        for at in (0..self.len).step_by(64) {
+            let word = self.word(at);
+            let ones = word_ones(word);
+            if left <= ones {
+                return at + nth_in_word(word, left);
+            }
+            left -= ones;
+        }
+        self.len
     }
 }

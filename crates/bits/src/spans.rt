@@ -1,39 +1,38 @@
 // The selected rows of a mask, span by span.
-ghost use Rattle.std.specs.Prelude.{◌≡◌};
+ghost use Rattle.std.specs.Prelude.{◌≡◌, [], length, MatchOption};
+ghost use Rattle.std.specs.Iterator.{at_most};
+ghost use Rattle.rows.specs.Rows.{selected_count};
 ghost use Rattle.bits.specs.Masks.{rows};
-ghost use Rattle.bits.specs.Walks.{slices_left, Span};
+ghost use Rattle.bits.specs.Walks.{slices_left, Spanned};
 
 use crate::mask::Mask;
-use crate::search::stretch_end;
-use crate::walks::{RowSpan, SetSlices};
+use crate::walks::{RowsLeft, SetSlices};
+use rows::range::RowRange;
 
 impl<'a> Mask<'a> {
     // A walk over its spans of selected rows.
     pub fn set_slices(&self) -> SetSlices<'a>
-        ensures first { result.at ≡ 0 }
+        ensures first { result.left.at ≡ 0 }
         ensures all { slices_left result ≡ rows self.now }
     {
-        SetSlices { mask: *self, at: 0 }
+        SetSlices {
+            left: RowsLeft { mask: *self, at: 0 },
+        }
     }
 }
 
-impl<'a> SetSlices<'a> {
-    // The next span of selected rows, as far as they go; none exactly when no selected row is left.
-    pub fn next(&mut self) -> Option<RowSpan>
-        ensures { Span self.old.at (slices_left self.old) result self.new.at (slices_left self.new) }
-    {
-        let mask = self.mask;
-        let end = mask.offset + mask.len;
-        let first = stretch_end(mask.bytes, mask.offset + self.at, end, false);
-        if first == end {
-            self.at = mask.len;
-            return None;
-        }
-        let past = stretch_end(mask.bytes, first, end, true);
-        self.at = past - mask.offset;
-        Some(RowSpan {
-            start: first - mask.offset,
-            end: past - mask.offset,
-        })
+impl<'a> Iterator for SetSlices<'a> {
+    type Item = RowRange;
+
+    // The next span of selected rows, as far as they go, and none exactly when no selected row is left.
+    ghost next_gives = { λ s r t. MatchOption r ((selected_count (slices_left s) ≡ 0) × (slices_left t ≡ [])) (λ x. Spanned s.left.at (slices_left s) x.start x.end t.left.at (slices_left t)) };
+
+    ghost remaining = { λ s. at_most (length (slices_left s)) };
+
+    fn next(&mut self) -> Option<RowRange> {
+        let start = self.left.first()?;
+        let end = self.left.mask.stretch_end(start, true);
+        self.left.at = end;
+        Some(RowRange { start, end })
     }
 }

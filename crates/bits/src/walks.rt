@@ -1,27 +1,24 @@
-// Walks over the selected rows of a mask: the mask, and the first row that is not passed yet.
+// Walks over the selected rows of a mask.
 ghost use Rattle.std.specs.Prelude.{◌≤◌};
 
 use crate::mask::Mask;
 
-// A walk that gives the selected rows span by span.
+// The rows of a mask that a walk has not passed: those from row `at` on.
 #[derive(Clone, Copy)]
-pub struct SetSlices<'a> {
+pub struct RowsLeft<'a> {
     pub(crate) mask: Mask<'a>,
     pub(crate) at: usize,
     ghost inside: { at ≤ mask.len },
+}
+
+// A walk that gives the selected rows span by span.
+#[derive(Clone, Copy)]
+pub struct SetSlices<'a> {
+    pub(crate) left: RowsLeft<'a>,
 }
 
 // A walk that gives the selected rows one by one.
 #[derive(Clone, Copy)]
 pub struct SetIndices<'a> {
-    pub(crate) mask: Mask<'a>,
-    pub(crate) at: usize,
-    ghost inside: { at ≤ mask.len },
-}
-
-// Rows from `start` on, before `end`.
-#[derive(Clone, Copy, PartialEq, Eq, Debug)]
-pub struct RowSpan {
-    pub start: usize,
-    pub end: usize,
+    pub(crate) left: RowsLeft<'a>,
 }

@@ -98,12 +98,3 @@ pub fn same_bits(w: u64, set: bool) -> usize
         w.trailing_zeros() as usize
     }
 }
-
-// One past the highest set bit of a word, and 0 where none is set.
-pub(crate) fn bits_used(w: u64) -> usize
-    ensures within { result ≤ 64 }
-    ensures last { 0 < result → bit_at w (result - 1) ≡ true }
-    ensures rest { (k : ℕ) → result ≤ k → bit_at w k ≡ false }
-{
-    64 - w.leading_zeros() as usize
-}

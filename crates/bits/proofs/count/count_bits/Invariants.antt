@@ -1,7 +1,0 @@
-use Rattle.std.proofs.Common.{◌≡◌, ◌+◌, ◌-◌, ◌*◌, min}
-use Rattle.rows.specs.Rows.{selected_count}
-use Rattle.bits.specs.Bits.{mask_rows}
-use Rattle.bits.proofs.count.count_bits.Given as goal
-
-abbrev pub invariant-loop-i : goal.invariant-loop-i
-invariant-loop-i l = l.n ≡ selected_count (mask_rows l.bytes l.offset (min (8 * l.i) (l.offset + l.len) - l.offset))
