@@ -87,14 +87,14 @@ byte-part bytes i p s n e h =
 
 -- ---- words
 
--- the word of eight bytes from i on
-pub word-rows : (bytes : List ℕ) (i w : ℕ) → ((j : ℕ) → get_or bytes j 0 < 256)
-    → w ≡ get_or bytes i 0 + get_or bytes (i + 1) 0 * 256 + get_or bytes (i + 2) 0 * 65536 + get_or bytes (i + 3) 0 * 16777216 + get_or bytes (i + 4) 0 * 4294967296 + get_or bytes (i + 5) 0 * 1099511627776 + get_or bytes (i + 6) 0 * 281474976710656 + get_or bytes (i + 7) 0 * 72057594037927936
+-- the word of eight bytes, which are those from byte i on
+pub word-rows : (bytes eight : List ℕ) (i w : ℕ) → ((j : ℕ) → get_or bytes j 0 < 256) → ((j : ℕ) → j < 8 → get_or eight j 0 ≡ get_or bytes (i + j) 0)
+    → w ≡ get_or eight 0 0 + get_or eight 1 0 * 256 + get_or eight 2 0 * 65536 + get_or eight 3 0 * 16777216 + get_or eight 4 0 * 4294967296 + get_or eight 5 0 * 1099511627776 + get_or eight 6 0 * 281474976710656 + get_or eight 7 0 * 72057594037927936
     → word_rows w 64 ≡ mask_rows bytes (8 * i) 64
 unfolding row_at
-word-rows bytes i w h e =
-    let z : get_or bytes (i + 0) 0 ≡ get_or bytes i 0 = ap (λ (x : ℕ). get_or bytes x 0) (let d : i + 0 ≡ i = omega arith in d) in
-    let s : w ≡ le_of (λ j. get_or bytes (i + j) 0) 8 = omega arith in
+word-rows bytes eight i w h same e =
+    let s : w ≡ le_of (λ j. get_or bytes (i + j) 0) 8 =
+    omega (arith, e, same 0 (omega arith), same 1 (omega arith), same 2 (omega arith), same 3 (omega arith), same 4 (omega arith), same 5 (omega arith), same 6 (omega arith), same 7 (omega arith)) in
     rows_ext (bit_at w) (row_at bytes) 0 (8 * i) 64 (λ k l.
     bit-same w (get_or bytes (i + k / 8) 0) (0 + k) (k % 8)
     (ap₂ digit s (let d : 0 + k ≡ k = omega arith in d)

@@ -5,7 +5,7 @@ ghost use Rattle.bits.specs.Bits.{bit_at};
 ghost use Rattle.bits.specs.Masks.{rows};
 
 use crate::mask::Mask;
-use crate::word::{rows_word, word_at};
+use crate::word::{low_bits, word_at};
 
 impl<'a> Mask<'a> {
     // The 64 rows from row `at` on, the first of them as bit 0; the bits past the last row are 0.
@@ -15,11 +15,8 @@ impl<'a> Mask<'a> {
         if at >= self.len {
             return 0;
         }
-        let left = self.len - at;
+        let left = (self.len - at).min(64);
         let start = self.offset + at;
-        if left >= 64 {
-            return word_at(self.bytes, start);
-        }
-        rows_word(self.bytes, start, left)
+        low_bits(word_at(self.bytes, start), left)
     }
 }

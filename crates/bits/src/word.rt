@@ -11,40 +11,19 @@ pub(crate) fn bit_at(bytes: &[u8], p: usize) -> bool
     (bytes[p / 8] >> (p % 8)) & 1 == 1
 }
 
-// The byte at place i, and 0 past the end.
-fn byte_or_zero(bytes: &[u8], i: usize) -> u8
-    ensures { result ≡ slice_index bytes.now i }
-{
-    if i < bytes.len() { bytes[i] } else { 0 }
-}
-
 // The word of eight bytes from byte i on; what lies past the end is 0.
 fn eight_bytes(bytes: &[u8], i: usize) -> u64
-    requires { i + 8 < 2 ^ 64 }
     ensures { word_rows result 64 ≡ mask_rows bytes.now (8 * i) 64 }
 {
-    if i + 8 <= bytes.len() {
-        return u64::from_le_bytes([
-            bytes[i],
-            bytes[i + 1],
-            bytes[i + 2],
-            bytes[i + 3],
-            bytes[i + 4],
-            bytes[i + 5],
-            bytes[i + 6],
-            bytes[i + 7],
-        ]);
+    let Some(rest) = bytes.get(i..) else {
+        return 0;
+    };
+    if let Some(eight) = rest.first_chunk::<8>() {
+        return u64::from_le_bytes(*eight);
     }
-    u64::from_le_bytes([
-        byte_or_zero(bytes, i),
-        byte_or_zero(bytes, i + 1),
-        byte_or_zero(bytes, i + 2),
-        byte_or_zero(bytes, i + 3),
-        byte_or_zero(bytes, i + 4),
-        byte_or_zero(bytes, i + 5),
-        byte_or_zero(bytes, i + 6),
-        byte_or_zero(bytes, i + 7),
-    ])
+    let mut eight = [0; 8];
+    eight[..rest.len()].copy_from_slice(rest);
+    u64::from_le_bytes(eight)
 }
 
 // The 64 rows from bit p on; those past the bytes read as 0.
@@ -54,7 +33,7 @@ pub fn word_at(bytes: &[u8], p: usize) -> u64
     let i = p / 8;
     let by = p % 8;
     let low = eight_bytes(bytes, i);
-    let high = byte_or_zero(bytes, i + 8) as u64;
+    let high = bytes.get(i + 8).copied().unwrap_or(0) as u64;
     (low >> by) | ((high << 1) << (63 - by))
 }
 
@@ -68,15 +47,6 @@ pub(crate) fn low_bits(w: u64, n: usize) -> u64
         return w;
     }
     w % (1 << n)
-}
-
-// The n rows from bit p on as one word, with zeros above them.
-pub(crate) fn rows_word(bytes: &[u8], p: usize, n: usize) -> u64
-    requires { n ≤ 64 }
-    ensures small { result < 2 ^ n }
-    ensures rows { word_rows result n ≡ mask_rows bytes.now p n }
-{
-    low_bits(word_at(bytes, p), n)
 }
 
 // How many bits of a word are set.
