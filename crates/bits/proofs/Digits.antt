@@ -1,11 +1,12 @@
 -- Laws of a number's binary digits. Assumes nothing.
-use Rattle.std.proofs.Common.{◌≡◌, ℕ, zero, suc, ◌+◌, ◌-◌, ◌*◌, ◌/◌, ◌%◌, ◌^◌, ◌<◌, ◌≤◌, true, false, not, eqb, ◌⊎◌, sym, refl, ap, ◌∙◌, subst, ap₂, inl, inr, add-zero, mod-lt, zero-lt-suc, mul_assoc, add_comm, pow-suc, arith, pow_pos, pow-add, shl_exact, shr-shr}
-use native.Mathlib.Nat.{div-eq_of_lt}
+use Rattle.std.proofs.Common.{◌≡◌, ℕ, zero, suc, ◌+◌, ◌-◌, ◌*◌, ◌/◌, ◌%◌, ◌^◌, ◌<◌, ◌≤◌, max, true, false, eqb, ◌⊎◌, sym, refl, ap, ◌∙◌, subst, ap₂, inl, inr, add-zero, mod-lt, zero-lt-suc, mul_assoc, add_comm, pow-suc, arith, pow_pos, pow-add, shl_exact, shr-shr}
 use lib.Arith.{digits_lt}
-use Rattle.std.proofs.lemmas.Nat.{one_shl}
-use lib.Bits.{bit_xor, bit_or, xor_shr, xor_mod, or_zero_r, or_shr, or_mod}
-use lib.Count.{count_trailing_zeros, under}
-use lib.Pow.{ones_split, ones_lt, field, mod-mod-pow, high, low}
+use Rattle.std.proofs.lemmas.Nat.{one_shl, trailing_le}
+use Rattle.std.proofs.lemmas.Nat.Bits.{bit_at-zero, bit_at_or, bit_at_not, bit_at_ones, bit_at_above, bit_at_cat_low, bit_at_cat_high, bit_at-trailing_zeros}
+use lib.Bits.{bit_or}
+use lib.Count.{count_trailing_zeros}
+use Rattle.std.specs.Int.{w64, bit_not, trailing_zeros, trailing_ones}
+use lib.Pow.{ones_lt, field, mod-mod-pow, high}
 use Rattle.std.proofs.lemmas.Bool.{cases_lt}
 use Rattle.bits.specs.Bits.{digit, bit_at}
 
@@ -32,25 +33,22 @@ digit_low n j k h =
 
 -- `a` above, and j digits `r` below
 pub digit-under : (a j r k : ℕ) → r < 2 ^ j → k < j → digit (a * 2 ^ j + r) k ≡ digit r k
-digit-under a j r k h l = sym (digit_low (a * 2 ^ j + r) j k l) ∙ ap (λ (x : ℕ). digit x k) (low a j h)
+unfolding digit
+digit-under a j r k h l = bit_at_cat_low a j r k l
 
 pub digit-over : (a j r k : ℕ) → r < 2 ^ j → digit (a * 2 ^ j + r) (j + k) ≡ digit a k
-digit-over a j r k h = sym (digit-shr (a * 2 ^ j + r) j k) ∙ ap (λ (x : ℕ). digit x k) (high a j h)
+unfolding digit
+digit-over a j r k h = bit_at_cat_high a j r (j + k) h (omega arith) ∙ ap (digit a) (let e : j + k - j ≡ k = omega arith in e)
 
 -- past a number's length
-digit-zero : (k : ℕ) → digit 0 k ≡ 0
-unfolding digit
-digit-zero k = ap (λ (x : ℕ). x % 2) (div-eq_of_lt (pow_pos k))
-
 pub digit-past : (n j k : ℕ) → n < 2 ^ j → j ≤ k → digit n k ≡ 0
-digit-past n j k h l =
-    ap (digit n) (let e : k ≡ j + (k - j) = omega arith in e) ∙ sym (digit-shr n j (k - j))
-    ∙ ap (λ (x : ℕ). digit x (k - j)) (div-eq_of_lt h) ∙ digit-zero (k - j)
+unfolding digit
+digit-past n j k h l = bit_at_above n j k h l
 
 -- `a | b`
-pub digit_or : (a b k : ℕ) → digit (bit_or a b) k ≡ bit_or (digit a k) (digit b k)
+digit_or : (a b k : ℕ) → digit (bit_or a b) k ≡ max (digit a k) (digit b k)
 unfolding digit
-digit_or a b k = ap (λ (x : ℕ). x % 2) (or_shr a b k) ∙ or_mod (a / 2 ^ k) (b / 2 ^ k) 1
+digit_or a b k = bit_at_or a b k
 
 pub bit-same : (m n j k : ℕ) → digit m j ≡ digit n k → bit_at m j ≡ bit_at n k
 unfolding bit_at
@@ -101,68 +99,55 @@ module _ (lo hi sh : ℕ) (hl : lo < 2 ^ 64) (hh : hi < 256) (hs : sh < 8) where
 
   pub shifted-low : (k : ℕ) → sh + k < 64 → digit (shifted lo hi sh) k ≡ digit lo (sh + k)
   shifted-low k h =
-      digit_or (lo / 2 ^ sh) ((hi * 2 ^ 1 % 2 ^ 64) * 2 ^ (63 - sh) % 2 ^ 64) k
-      ∙ ap₂ bit_or (digit-shr lo sh k) (top k (omega arith) ∙ digit-under hi (64 - sh) 0 k (pow_pos (64 - sh)) (omega arith) ∙ digit-zero k)
-      ∙ or_zero_r (digit lo (sh + k))
+      let none : digit (hi * 2 ^ (64 - sh) + 0) k ≡ digit 0 k = digit-under hi (64 - sh) 0 k (pow_pos (64 - sh)) (omega arith) in
+      omega (
+        arith,
+        digit_or (lo / 2 ^ sh) ((hi * 2 ^ 1 % 2 ^ 64) * 2 ^ (63 - sh) % 2 ^ 64) k,
+        digit-shr lo sh k,
+        top k (omega arith),
+        none,
+        digit-past 0 0 k (omega arith) (omega arith),
+      )
 
   pub shifted-high : (k : ℕ) → k < 64 → 64 ≤ sh + k → digit (shifted lo hi sh) k ≡ digit hi (sh + k - 64)
   shifted-high k l h =
-      digit_or (lo / 2 ^ sh) ((hi * 2 ^ 1 % 2 ^ 64) * 2 ^ (63 - sh) % 2 ^ 64) k
-      ∙ ap₂ bit_or (digit-shr lo sh k ∙ digit-past lo 64 (sh + k) hl h)
-      (top k l ∙ ap (digit (hi * 2 ^ (64 - sh) + 0)) (let e : k ≡ (64 - sh) + (sh + k - 64) = omega arith in e)
-      ∙ digit-over hi (64 - sh) 0 (sh + k - 64) (pow_pos (64 - sh)))
+      omega (
+        arith,
+        digit_or (lo / 2 ^ sh) ((hi * 2 ^ 1 % 2 ^ 64) * 2 ^ (63 - sh) % 2 ^ 64) k,
+        digit-shr lo sh k,
+        digit-past lo 64 (sh + k) hl h,
+        top k l,
+        ap (digit (hi * 2 ^ (64 - sh) + 0)) (let e : k ≡ (64 - sh) + (sh + k - 64) = omega arith in e)
+            ∙ digit-over hi (64 - sh) 0 (sh + k - 64) (pow_pos (64 - sh)),
+      )
 
--- ---- trailing zeros
-tz-below-at : (k n d : ℕ) → n % 2 ≡ d → ((j : ℕ) → j < count_trailing_zeros k (n / 2) → digit (n / 2) j ≡ 0)
-    → (j : ℕ) → j < under d (count_trailing_zeros k (n / 2)) → digit n j ≡ 0
+-- ---- the low digits of a word that are alike
+pub zeros-alike : (n k : ℕ) → n < 2 ^ 64 → k < trailing_zeros w64 n → digit n k ≡ 0
 unfolding digit
-tz-below-at k n zero e ih zero h = (let z : n / 2 ^ 0 % 2 ≡ n % 2 = omega arith in z) ∙ e
-tz-below-at k n zero e ih (suc j) h =
-    ap (λ (x : ℕ). n / 2 ^ x % 2) (let z : suc j ≡ 1 + j = omega arith in z) ∙ sym (digit-shr n 1 j) ∙ ih j (omega arith)
-tz-below-at k n (suc d) e ih j h = absurd (omega arith)
+zeros-alike zero k h l = bit_at-zero k
+zeros-alike (suc n) k h l = (bit_at-trailing_zeros w64 (suc n) (omega arith) h).2 k l
 
-pub tz-below : (k n j : ℕ) → j < count_trailing_zeros k n → digit n j ≡ 0
-unfolding count_trailing_zeros
-tz-below zero n j h = absurd (omega arith)
-tz-below (suc k) n j h = tz-below-at k n (n % 2) refl (tz-below k (n / 2)) j h
+pub zeros-end : (n : ℕ) → n < 2 ^ 64 → trailing_zeros w64 n < 64 → digit n (trailing_zeros w64 n) ≡ 1
+unfolding digit count_trailing_zeros
+zeros-end zero h l = absurd (let none : trailing_zeros w64 0 ≡ 64 = refl in omega (arith, none))
+zeros-end (suc n) h l = (bit_at-trailing_zeros w64 (suc n) (omega arith) h).1
 
-tz-at-at : (k n d : ℕ) → n % 2 ≡ d → (count_trailing_zeros k (n / 2) < k → digit (n / 2) (count_trailing_zeros k (n / 2)) ≡ 1)
-    → under d (count_trailing_zeros k (n / 2)) < suc k → digit n (under d (count_trailing_zeros k (n / 2))) ≡ 1
+-- a digit, where that of `!n` is known
+turned : (n k : ℕ) → n < 2 ^ 64 → k < 64 → digit (bit_not w64 n) k ≡ 1 - digit n k
 unfolding digit
-tz-at-at k n zero e ih h =
-    ap (λ (x : ℕ). n / 2 ^ x % 2) (let z : suc (count_trailing_zeros k (n / 2)) ≡ 1 + count_trailing_zeros k (n / 2) = omega arith in z)
-    ∙ sym (digit-shr n 1 (count_trailing_zeros k (n / 2))) ∙ ih (omega arith)
-tz-at-at k n (suc d) e ih h = let z : n / 2 ^ 0 % 2 ≡ 1 = omega arith in z
+turned n k h l = bit_at_not w64 n k h l
 
-pub tz-at : (k n : ℕ) → count_trailing_zeros k n < k → digit n (count_trailing_zeros k n) ≡ 1
-unfolding count_trailing_zeros
-tz-at zero n h = absurd (omega arith)
-tz-at (suc k) n h = tz-at-at k n (n % 2) refl (tz-at k (n / 2)) h
+pub ones-alike : (n k : ℕ) → n < 2 ^ 64 → k < trailing_ones w64 n → digit n k ≡ 1
+ones-alike n k h l =
+    let small : k < 64 = omega (arith, trailing_le 64 (bit_not w64 n)) in
+    omega (arith, zeros-alike (bit_not w64 n) k (omega arith) l, turned n k h small, digit_lt n k)
 
--- ---- a word with every bit turned
-pub digit-xor : (a b k : ℕ) → digit (bit_xor a b) k ≡ bit_xor (digit a k) (digit b k)
-unfolding digit
-digit-xor a b k = ap (λ (x : ℕ). x % 2) (xor_shr a b k) ∙ xor_mod (a / 2 ^ k) (b / 2 ^ k) 1
-
-ones-parts : (i k : ℕ) → digit (2 ^ (suc i + k) - 1) k ≡ 1
-unfolding digit
-ones-parts i k =
-    ap (λ (x : ℕ). x / 2 ^ k % 2) (ones_split (suc i) k) ∙ ap (λ (x : ℕ). x % 2) (high (2 ^ suc i - 1) k (ones_lt k))
-    ∙ ap (λ (x : ℕ). (2 ^ x - 1) % 2) (let e : suc i ≡ i + 1 = omega arith in e) ∙ ap (λ (x : ℕ). x % 2) (ones_split i 1) ∙ low (2 ^ i - 1) 1 (ones_lt 1)
+pub ones-end : (n : ℕ) → n < 2 ^ 64 → trailing_ones w64 n < 64 → digit n (trailing_ones w64 n) ≡ 0
+ones-end n h l = omega (arith, zeros-end (bit_not w64 n) (omega arith) l, turned n (trailing_ones w64 n) h l, digit_lt n (trailing_ones w64 n))
 
 pub digit_ones : (n k : ℕ) → k < n → digit (2 ^ n - 1) k ≡ 1
-digit_ones n k h = ap (λ (x : ℕ). digit (2 ^ x - 1) k) (let e : n ≡ suc (n - suc k) + k = omega arith in e) ∙ ones-parts (n - suc k) k
-
-turn : (x : ℕ) → x < 2 → eqb x 1 ≡ not (eqb (bit_xor x 1) 1)
-turn zero h = refl
-turn (suc zero) h = refl
-turn (suc (suc x)) h = absurd (omega arith)
-
-pub bit-turn : (n k : ℕ) → k < 64 → bit_at n k ≡ not (bit_at (bit_xor n (2 ^ 64 - 1)) k)
-unfolding bit_at
-bit-turn n k h =
-    turn (digit n k) (digit_lt n k)
-    ∙ ap (λ (x : ℕ). not (eqb x 1)) (ap (bit_xor (digit n k)) (sym (digit_ones 64 k h)) ∙ sym (digit-xor n (2 ^ 64 - 1) k))
+unfolding digit
+digit_ones n k h = bit_at_ones n k h
 
 pub bit-clear : (n k : ℕ) → digit n k ≡ 0 → bit_at n k ≡ false
 unfolding bit_at

@@ -62,9 +62,10 @@ pub fn same_bits(w: u64, set: bool) -> usize
     ensures alike { (k : ℕ) → k < result → bit_at w k ≡ set }
     ensures stops { result < 64 → bit_at w result ≡ not set }
 {
-    if set {
-        (w ^ 0xffff_ffff_ffff_ffff).trailing_zeros() as usize
+    let same = if set {
+        w.trailing_ones()
     } else {
-        w.trailing_zeros() as usize
-    }
+        w.trailing_zeros()
+    };
+    same as usize
 }

@@ -1,29 +1,25 @@
-use Rattle.std.proofs.Common.{◌-◌, ◌^◌, not, sym, ap, ◌∙◌, arith}
-use lib.Bits.{bit_xor}
-use lib.Count.{count_trailing_zeros, trailing_le}
-use Rattle.bits.proofs.Digits.{tz-below, tz-at, bit-turn, bit-clear, bit-set}
+use Rattle.std.proofs.Common.{not, sym, ap, ◌∙◌, arith}
+use Rattle.std.specs.Int.{w64, trailing_zeros, trailing_ones}
+use Rattle.bits.specs.Bits.{bit_at}
+use Rattle.bits.proofs.Digits.{zeros-alike, zeros-end, ones-alike, ones-end, bit-clear, bit-set}
 use Rattle.bits.proofs.word.same_bits.Goals as goal
+use Rattle.bits.proofs.word.same_bits.Goals.{then-set, else-set}
 
-pub overflow_cast-result : goal.overflow_cast-result
-overflow_cast-result c = omega (arith, trailing_le 64 (bit_xor c.args.w (2 ^ 64 - 1)))
+pub returns-clause-alike : goal.returns-clause-alike
+returns-clause-alike c k h =
+    let w = c.args.w in
+    elim c.if-set.branch [
+      | then-set b ↦ bit-set w k (ones-alike w k (omega arith) (omega (arith, b.same-is, b.trailing_ones-same.ensures))) ∙ sym b.if-set.true
+      | else-set b ↦ bit-clear w k (zeros-alike w k (omega arith) (omega (arith, b.same-is))) ∙ sym b.if-set.false
+    ]
 
-pub overflow_cast-result-else-set : goal.overflow_cast-result-else-set
-overflow_cast-result-else-set c = omega (arith, trailing_le 64 c.args.w)
-
-pub returns-then-set : goal.returns-then-set
-returns-then-set c =
-    let x = bit_xor c.args.w (2 ^ 64 - 1) in
-    record {
-      within = trailing_le 64 x;
-      alike = λ k h. bit-turn c.args.w k (omega (arith, trailing_le 64 x)) ∙ ap not (bit-clear x k (tz-below 64 x k h)) ∙ sym c.if-set.true;
-      stops = λ h. bit-turn c.args.w (count_trailing_zeros 64 x) h ∙ ap not (bit-set x (count_trailing_zeros 64 x) (tz-at 64 x h)) ∙ ap not (sym c.if-set.true);
-    }
-
-pub returns-else-set : goal.returns-else-set
-returns-else-set c =
-    let x = c.args.w in
-    record {
-      within = trailing_le 64 x;
-      alike = λ k h. bit-clear x k (tz-below 64 x k h) ∙ sym c.if-set.false;
-      stops = λ h. bit-set x (count_trailing_zeros 64 x) (tz-at 64 x h) ∙ ap not (sym c.if-set.false);
-    }
+pub returns-clause-stops : goal.returns-clause-stops
+returns-clause-stops c h =
+    let w = c.args.w in
+    elim c.if-set.branch [
+      | then-set b ↦
+          let e = b.same-is ∙ b.trailing_ones-same.ensures in
+          ap (bit_at w) e ∙ bit-clear w (trailing_ones w64 w) (ones-end w (omega arith) (omega (arith, e))) ∙ ap not (sym b.if-set.true)
+      | else-set b ↦
+          ap (bit_at w) b.same-is ∙ bit-set w (trailing_zeros w64 w) (zeros-end w (omega arith) (omega (arith, b.same-is))) ∙ ap not (sym b.if-set.false)
+    ]
