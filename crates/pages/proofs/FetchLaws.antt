@@ -4,7 +4,7 @@ use Rattle.std.proofs.lemmas.List.{get_or-take, get_or-drop}
 use Rattle.std.proofs.lemmas.Bool.{true≢false, cases_lt, cases_order}
 use Rattle.refusals.specs.declared.fault.SelectionFault.{SelectionFault}
 use Rattle.pages.specs.declared.page.PageLocation.{PageLocation}
-use Rattle.pages.specs.declared.turn.PageSpan.{PageSpan}
+use Rattle.pages.specs.declared.span.PageSpan.{PageSpan}
 use Rattle.pages.specs.Items.{Stands}
 use Rattle.pages.specs.Pages.{first_row, next_of, rises, any_row, own, later, span, wanted_pages, accepted}
 use Rattle.pages.specs.Fetch.{page_at, span_at, Holds, Selected, In, Ascending, Covers, FewestPages}
@@ -209,10 +209,10 @@ module _ (ps : List PageLocation) (rows : List Bool) (ok : accepted ps ≡ true)
   fetched f (Err e) old new s = tt
 
 -- no more wanted pages than pages
-pub wanted-few : {X : Type 0} (f : PageSpan → X) (ps : List PageLocation) (xs : List Bool) → length (map f (wanted_pages ps xs)) ≤ length ps
-wanted-few f [] xs = omega arith
-wanted-few f (p ∷ ps) xs = one (any_row (own p (next_of ps) xs)) (wanted-few f ps (later p (next_of ps) xs))
+pub wanted-few : (ps : List PageLocation) (xs : List Bool) → length (wanted_pages ps xs) ≤ length ps
+wanted-few [] xs = omega arith
+wanted-few (p ∷ ps) xs = one (any_row (own p (next_of ps) xs)) (wanted-few ps (later p (next_of ps) xs))
   where
-    one : (b : Bool) → length (map f (wanted_pages ps (later p (next_of ps) xs))) ≤ length ps → length (map f (cond b (span p (next_of ps) ∷ wanted_pages ps (later p (next_of ps) xs)) (wanted_pages ps (later p (next_of ps) xs)))) ≤ suc (length ps)
+    one : (b : Bool) → length (wanted_pages ps (later p (next_of ps) xs)) ≤ length ps → length (cond b (span p (next_of ps) ∷ wanted_pages ps (later p (next_of ps) xs)) (wanted_pages ps (later p (next_of ps) xs))) ≤ suc (length ps)
     one true h = omega arith
     one false h = omega arith

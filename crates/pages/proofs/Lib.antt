@@ -1,5 +1,3 @@
 pub mod PassLaws
 pub mod PageLaws
-pub mod ItemLaws
 pub mod FetchLaws
-pub mod VerdictLaws

@@ -1,12 +1,11 @@
 -- Laws of page lists. Assumes nothing.
-use Rattle.std.proofs.Common.{◌≡◌, ℕ, zero, suc, ◌+◌, ◌-◌, ◌<◌, Bool, true, false, cond, ◌&&◌, eqb, ltb, List, [], ◌∷◌, length, get_or, drop, ℤ, pos, negsuc, nat_abs, Some, None, Option, sym, refl, ap, ◌∙◌, subst, arith}
+use Rattle.std.proofs.Common.{◌≡◌, ℕ, suc, ◌+◌, ◌-◌, ◌<◌, Bool, true, false, cond, ◌&&◌, eqb, ltb, List, [], ◌∷◌, length, get_or, drop, ℤ, pos, negsuc, nat_abs, Some, None, Option, sym, refl, ap, ◌∙◌, arith}
 use lib.Signed.{le_z, lt_z}
 use Rattle.std.proofs.lemmas.List.{drop_more}
 use Rattle.std.proofs.lemmas.Bool.{and_parts, ltb-true, eqb-true, true≢false}
 use Rattle.rows.specs.Rows.{row_limit}
 use Rattle.pages.specs.declared.page.PageLocation.{PageLocation}
-use Rattle.pages.specs.Pages.{fine, first_row, fits, in_order, accepted, fault_at, next_of, rises, any_row, own, later, span, wanted_pages, last_first}
-use Rattle.pages.specs.Turns.{InTurn, Left}
+use Rattle.pages.specs.Pages.{fine, first_row, fits, in_order, accepted, next_of, rises, any_row, own, later, span, wanted_pages, last_first, Left}
 
 -- counting the pages in order, at page i
 module _ (q : Option PageLocation) (ps : List PageLocation) (i : ℕ) (d : PageLocation) (h : i < length ps) where
@@ -47,18 +46,13 @@ pub tail-rises : (p : PageLocation) (ps : List PageLocation) → rises (p ∷ ps
 tail-rises p [] w = refl
 tail-rises p (q ∷ ps) w = (rises-parts p q ps w).1
 
-pub fine-at : (ps : List PageLocation) (k : ℕ) (d : PageLocation) → rises ps ≡ true → k < length ps → fine (get_or ps k d) ≡ true
-fine-at [] k d w h = absurd (omega arith)
-fine-at (p ∷ ps) zero d w h = (and_parts (fine p) _ w).0
-fine-at (p ∷ ps) (suc k) d w h = fine-at ps k d (tail-rises p ps w) (omega arith)
-
 -- the last page's first row, as the code reads it
-pub last-first : (ps : List PageLocation) (d : PageLocation) → 0 < length ps → last_first ps ≡ first_row (get_or ps (length ps - 1) d)
+pub last-first : (ps : List PageLocation) (d : PageLocation) → 0 < length ps → first_row (get_or ps (length ps - 1) d) ≡ last_first ps
 last-first [] d h = absurd (omega arith)
 last-first (p ∷ []) d h = refl
 last-first (p ∷ q ∷ ps) d h =
-    let e : suc (length (q ∷ ps) - 1) ≡ length (p ∷ q ∷ ps) - 1 = omega arith in
-    last-first (q ∷ ps) d (omega arith) ∙ ap (λ k. first_row (get_or (p ∷ q ∷ ps) k d)) e
+    let e : length (p ∷ q ∷ ps) - 1 ≡ suc (length (q ∷ ps) - 1) = omega arith in
+    ap (λ k. first_row (get_or (p ∷ q ∷ ps) k d)) e ∙ last-first (q ∷ ps) d (omega arith)
 
 -- pages that are all in order rise, from row 0 on
 order-first : (b : Bool) (m n : ℕ) → cond b (suc m) 0 ≡ suc n → (b ≡ true) × (m ≡ n)
@@ -100,33 +94,9 @@ module _ (ps : List PageLocation) (e : accepted ps ≡ true) where
   pub accepted-zero : first_of ps ≡ 0
   accepted-zero = order-zero ps order
 
--- the first page at fault tells whether a list is accepted
-pub no-fault : (ps : List PageLocation) → None ≡ fault_at ps → accepted ps ≡ true
-no-fault ps e = go (accepted ps) e
-  where
-    go : (b : Bool) → None ≡ cond b None (Some (in_order None ps)) → b ≡ true
-    go true e = refl
-    go false e = absurd (let z : ◌≡◌ {A = ℕ} 0 1 = cc in omega arith)
-
--- the first page of a list that rises
-pub in-turn : (ps : List PageLocation) (p : PageLocation) (qs : List PageLocation) → ps ≡ p ∷ qs → rises ps ≡ true → InTurn p (next_of qs) × (rises qs ≡ true)
-in-turn ps p [] e w = ((and_parts (fine p) _ (sym (ap rises e) ∙ w)).0, refl)
-in-turn ps p (q ∷ qs) e w =
-    let parts = and_parts (fine p) _ (sym (ap rises e) ∙ w) in
-    let more = and_parts (fits (Some p) q) (rises (q ∷ qs)) parts.1 in
-    let next = fits-parts p q parts.0 more.0 in
-    ((parts.0, next.0, next.1), more.1)
-
-turned-next : (ps : List PageLocation) (p : PageLocation) (qs : List PageLocation) (xs ys : List Bool) (b : Bool) → ps ≡ p ∷ qs → b ≡ any_row (own p (next_of qs) xs) → Left p (next_of qs) xs ys → wanted_pages ps xs ≡ cond b (span p (next_of qs) ∷ wanted_pages qs ys) (wanted_pages qs ys)
-turned-next ps p [] xs ys b e w l = ap (λ k. wanted_pages k xs) e ∙ ap (λ a. cond a (span p None ∷ []) []) (sym w)
-turned-next ps p (q ∷ qs) xs ys b e w l =
+-- one turn of a walk: the page p is taken off ps, and its rows off xs
+pub turned : (ps : List PageLocation) (p : PageLocation) (qs : List PageLocation) (xs ys : List Bool) (b : Bool) → ps ≡ p ∷ qs → b ≡ any_row (own p (next_of qs) xs) → Left p (next_of qs) xs ys → wanted_pages ps xs ≡ cond b (span p (next_of qs) ∷ wanted_pages qs ys) (wanted_pages qs ys)
+turned ps p [] xs ys b e w l = ap (λ k. wanted_pages k xs) e ∙ ap (λ a. cond a (span p None ∷ []) []) (sym w)
+turned ps p (q ∷ qs) xs ys b e w l =
     ap (λ k. wanted_pages k xs) e ∙ ap (λ a. cond a (span p (Some q) ∷ wanted_pages (q ∷ qs) (later p (Some q) xs)) (wanted_pages (q ∷ qs) (later p (Some q) xs))) (sym w)
     ∙ ap (λ k. cond b (span p (Some q) ∷ wanted_pages (q ∷ qs) k) (wanted_pages (q ∷ qs) k)) (sym l)
-
--- one turn of a walk: the page p is taken off ps, with nx after it
-pub turned : (ps : List PageLocation) (p : PageLocation) (qs : List PageLocation) (nx : Option PageLocation) (xs ys : List Bool) (b : Bool) → ps ≡ p ∷ qs → nx ≡ next_of qs → rises ps ≡ true → b ≡ any_row (own p nx xs) → Left p nx xs ys → (length ps ≡ suc (length qs)) × (wanted_pages ps xs ≡ cond b (span p nx ∷ wanted_pages qs ys) (wanted_pages qs ys)) × InTurn p nx
-turned ps p qs nx xs ys b e n w any left = (
-  ap length e,
-  turned-next ps p qs xs ys b e (any ∙ ap (λ k. any_row (own p k xs)) n) (subst (λ k. Left p k xs ys) n left) ∙ ap (λ k. cond b (span p k ∷ wanted_pages qs ys) (wanted_pages qs ys)) (sym n),
-  subst (λ k. InTurn p k) (sym n) (in-turn ps p qs e w).0,
-)

@@ -3,7 +3,7 @@ use Rattle.std.specs.Prelude.{◌≡◌, ℕ, suc, ◌<◌, ◌≤◌, Bool, tru
 use Rattle.pages.specs.declared.page.PageLocation.{PageLocation}
 use Rattle.pages.specs.declared.page.ByteRange.{ByteRange}
 use Rattle.rows.specs.declared.range.RowRange.{RowRange}
-use Rattle.pages.specs.declared.turn.PageSpan.{PageSpan}
+use Rattle.pages.specs.declared.span.PageSpan.{PageSpan}
 use Rattle.pages.specs.Pages.{first_row, byte_range, next_of, span, span_rows}
 
 -- what is read past the end of a list

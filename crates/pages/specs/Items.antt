@@ -12,3 +12,7 @@ stored size xs = cond (nat_lt size (length xs)) (refused 12 (length xs) selectio
 abbrev pub Stands : {T : Type 0} → List T → Result ℕ SelectionFault → List T → List T → Type 0
 Stands xs (Ok n) old new = (take n new ≡ xs) × (drop n new ≡ drop n old)
 Stands xs (Err e) old new = new ≡ old
+
+-- what is told of each item is h of it
+abbrev pub Tells : {A T : Type 0} → (A → T → Type 0) → (A → T) → Type 0
+Tells {A} {T} told h = (x : A) (y : T) → told x y → y ≡ h x

@@ -1,5 +1,5 @@
 pub mod Pages
-pub mod Turns
+pub mod Walks
 pub mod Items
 pub mod Verdicts
 pub mod Fetch

@@ -1,10 +1,10 @@
 -- Pages, the lists of them that are accepted, and the ones that hold a selected row.
-use Rattle.std.specs.Prelude.{ℕ, suc, ◌+◌, ◌-◌, Bool, true, false, cond, ◌&&◌, ◌||◌, List, [], ◌∷◌, map, length, take, drop, pos, Some, None, Option, ◌==◌, int_le, int_lt, nat_lt, unsigned_abs}
+use Rattle.std.specs.Prelude.{◌≡◌, ℕ, suc, ◌+◌, ◌-◌, Bool, true, false, cond, ◌&&◌, ◌||◌, List, [], ◌∷◌, map, length, take, drop, pos, Some, None, Option, ◌==◌, int_le, int_lt, nat_lt, unsigned_abs}
 use Rattle.rows.specs.Rows.{row_limit}
 use Rattle.pages.specs.declared.page.PageLocation.{PageLocation}
 use Rattle.pages.specs.declared.page.ByteRange.{ByteRange}
 use Rattle.rows.specs.declared.range.RowRange.{RowRange}
-use Rattle.pages.specs.declared.turn.PageSpan.{PageSpan}
+use Rattle.pages.specs.declared.span.PageSpan.{PageSpan}
 
 -- the numbers of a page, none of which is negative where it is fine
 abbrev pub first_row : PageLocation → ℕ
@@ -42,10 +42,6 @@ in_order q (p ∷ ps) = cond (fits q p) (suc (in_order (Some p) ps)) 0
 abbrev pub accepted : List PageLocation → Bool
 accepted ps = nat_lt 0 (length ps) && in_order None ps == length ps
 
--- the first page at fault of a list that is not accepted, 0 where it has no page
-abbrev pub fault_at : List PageLocation → Option ℕ
-fault_at ps = cond (accepted ps) None (Some (in_order None ps))
-
 -- the first page of a list
 abbrev pub next_of : List PageLocation → Option PageLocation
 next_of [] = None
@@ -75,6 +71,11 @@ own p (Some q) xs = take (first_row q - first_row p) xs
 abbrev pub later : PageLocation → Option PageLocation → List Bool → List Bool
 later p None xs = []
 later p (Some q) xs = drop (first_row q - first_row p) xs
+
+-- the rows that are left after a page's own; after the last page, nothing is said
+abbrev pub Left : PageLocation → Option PageLocation → List Bool → List Bool → Type 0
+Left p None xs ys = Unit {0}
+Left p (Some q) xs ys = ys ≡ later p (Some q) xs
 
 -- a page with the one after it, if any
 abbrev pub span : PageLocation → Option PageLocation → PageSpan

@@ -1,11 +1,11 @@
 // Pages: which pages of a column hold a selected row, and the byte or row ranges to fetch for them.
 #![tactic(auto)]
 
-mod item;
+mod list;
 pub mod page;
 mod pass;
-mod ranges;
 mod reads;
 pub mod scan;
-mod turn;
+mod span;
+mod store;
 mod walk;

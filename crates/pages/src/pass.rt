@@ -1,11 +1,9 @@
 // Rows passed by, and whether one of them was selected.
 ghost use Rattle.std.specs.Prelude.{◌≡◌, take, drop};
 ghost use Rattle.runs.specs.HeldRows.{held_rows};
-ghost use Rattle.pages.specs.Pages.{any_row, own};
-ghost use Rattle.pages.specs.Turns.{InTurn, Left};
+ghost use Rattle.pages.specs.Pages.{any_row, own, Left};
 
-use crate::page::PageLocation;
-use crate::reads::first_row;
+use crate::span::PageSpan;
 use runs::held::Held;
 use runs::source::RunSource;
 
@@ -43,18 +41,16 @@ fn any_left<S: RunSource>(rows: &mut Held<S>) -> bool
     false
 }
 
-// Whether the page holds a selected row, of the rows from its first on; its own are removed.
-pub(crate) fn holds<S: RunSource>(
-    rows: &mut Held<S>,
-    page: PageLocation,
-    next: Option<PageLocation>,
-) -> bool
-    requires { InTurn page next }
-    ensures any { result ≡ any_row (own page next (held_rows S.RunSource.rows rows.old)) }
-    ensures rest { Left page next (held_rows S.RunSource.rows rows.old) (held_rows S.RunSource.rows rows.new) }
-{
-    match next {
-        None => any_left(rows),
-        Some(q) => pass(rows, first_row(q) - first_row(page)),
+impl PageSpan {
+    // Whether the page holds a selected row, of the rows from its first on; its own are removed.
+    pub(crate) fn holds<S: RunSource>(self, rows: &mut Held<S>) -> bool
+        ensures any { result ≡ any_row (own self.page self.next (held_rows S.RunSource.rows rows.old)) }
+        ensures rest { Left self.page self.next (held_rows S.RunSource.rows rows.old) (held_rows S.RunSource.rows rows.new) }
+    {
+        match self.next {
+            None => any_left(rows),
+            // First rows rise, so that nothing is cut off.
+            Some(q) => pass(rows, q.first_row().saturating_sub(self.page.first_row())),
+        }
     }
 }

@@ -6,10 +6,8 @@ ghost use Rattle.pages.specs.Pages.{scanned, page_rows};
 ghost use Rattle.pages.specs.Verdicts.{scan_verdict, rows_verdict};
 ghost use Rattle.pages.specs.Fetch.{FewestPages, bytes_at, rows_at};
 
-use crate::item::store;
+use crate::list::PageList;
 use crate::page::{ByteRange, PageLocation};
-use crate::ranges::{ByteRanges, RowRanges};
-use crate::reads::{fault_at, last_first};
 use refusals::fault::SelectionFault;
 use rows::limit::ROW_LIMIT;
 use rows::range::RowRange;
@@ -25,10 +23,8 @@ pub fn scan_ranges<S: RunSource>(
     ensures written { Stands (scanned pages.now (S.RunSource.rows source)) result place.old place.new }
     ensures fewest { IfOk result (λ n. FewestPages pages.now (S.RunSource.rows source) (bytes_at pages.now) (take n place.new)) }
 {
-    match fault_at(pages) {
-        Some(i) => Err(SelectionFault::BadPage(i)),
-        None => store(ByteRanges::new(pages, source), place),
-    }
+    let list = PageList::new(pages)?;
+    list.store(source, |page| page.bytes(), place)
 }
 
 // The row ranges of those pages, where the last page ends at the total; their number.
@@ -45,11 +41,9 @@ pub fn row_ranges_for_selected_pages<S: CountedSource>(
     if total > ROW_LIMIT {
         return Err(SelectionFault::RowLimit(0));
     }
-    if let Some(i) = fault_at(pages) {
-        return Err(SelectionFault::BadPage(i));
-    }
-    if total < source.rows_left() || total <= last_first(pages) {
+    let list = PageList::new(pages)?;
+    if total < source.rows_left() || total <= list.last_first_row() {
         return Err(SelectionFault::BadTotal(total));
     }
-    store(RowRanges::new(pages, total, source), place)
+    list.store(source, |page| page.rows(total), place)
 }

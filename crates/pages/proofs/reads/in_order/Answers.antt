@@ -5,13 +5,13 @@ use Rattle.pages.specs.Fetch.{no_page}
 use Rattle.pages.proofs.PageLaws.{order-stop, order-more}
 use Rattle.pages.proofs.reads.in_order.Goals as goal
 
-pub returns-then-not-fit : goal.returns-then-not-fit
-returns-then-not-fit c =
-    omega (arith, order-stop c.loop-i.last c.args.pages.now c.loop-i.i no_page (omega arith) (sym c.if-not-fit.ensures), c.loop-i.invariant)
+pub returns-then-not-fits : goal.returns-then-not-fits
+returns-then-not-fits c =
+    omega (arith, order-stop c.loop-i.last c.args.pages.now c.loop-i.i no_page (omega arith) (sym c.if-not-fits.ensures), c.loop-i.invariant)
 
 pub loop-i-preserved : goal.loop-i-preserved
 loop-i-preserved c =
-    omega (arith, order-more c.loop-i.last c.args.pages.now c.loop-i.i no_page (omega arith) (sym c.if-not-fit.ensures), c.loop-i.invariant)
+    omega (arith, order-more c.loop-i.last c.args.pages.now c.loop-i.i no_page (omega arith) (sym c.if-not-fits.ensures), c.loop-i.invariant)
 
 pub returns : goal.returns
 returns c =

@@ -1,24 +1,13 @@
-use Rattle.std.proofs.Common.{length, ap, ◌∙◌, subst}
-use Rattle.pages.specs.Items.{Stands, stored}
+use Rattle.std.proofs.Common.{take, IfOk, subst, rules}
 use Rattle.pages.specs.Pages.{span_bytes}
-use Rattle.pages.proofs.PageLaws.{no-fault, accepted-rises}
+use Rattle.pages.specs.Fetch.{FewestPages, bytes_at}
 use Rattle.pages.proofs.FetchLaws.{fetched}
-use Rattle.pages.proofs.VerdictLaws.{list-passes}
 use Rattle.pages.proofs.scan.scan_ranges.Goals as goal
 
-pub new-requires : goal.new-requires
-new-requires g c = let ps = c.args.pages.now in accepted-rises ps (no-fault ps c.in-None.ensures)
-
-pub returns-in-None : goal.returns-in-None
-returns-in-None g c =
-    let ps = c.args.pages.now in
+pub returns-clause-fewest : goal.returns-clause-fewest
+returns-clause-fewest g c =
+    let l = c.in_ok-list.list in
     let rows = g.S.RunSource.rows c.args.source in
-    let old = c.args.place.now in
     let new = c.store.new.place in
-    let ok = no-fault ps c.in-None.ensures in
-    let written = subst (λ l. Stands l c.store.result old new) c.new.ensures c.store.ensures.written in
-    record {
-      verdict = c.store.ensures.verdict ∙ ap (stored (length old)) c.new.ensures ∙ list-passes ps ok _;
-      written = written;
-      fewest = fetched ps rows ok span_bytes c.store.result old new written;
-    }
+    subst (λ ps. IfOk c.store.result (λ n. FewestPages ps rows (bytes_at ps) (take n new))) c.in_ok-list.ensures.list
+    (fetched l.pages.now rows l.in_order span_bytes c.store.result c.args.place.now new (c.store.ensures.written span_bytes (λ s x p. search rules)))
