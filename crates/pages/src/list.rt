@@ -1,20 +1,15 @@
 // A page list that is accepted.
 ghost use Rattle.std.specs.Prelude.{◌≡◌, true, false, None, IfOk, IfErr};
 ghost use Rattle.refusals.specs.declared.fault.SelectionFault.TheVariants.{BadPage};
-ghost use Rattle.pages.specs.Pages.{accepted, in_order, wanted_pages, last_first};
-ghost use Rattle.pages.specs.Walks.{pages_left};
+ghost use Rattle.pages.specs.Pages.{accepted, in_order, last_first};
 
 use crate::page::PageLocation;
-use crate::reads::in_order;
-use crate::walk::Walk;
 use refusals::fault::SelectionFault;
-use runs::held::Held;
-use runs::source::RunSource;
 
 #[derive(Clone, Copy)]
 pub(crate) struct PageList<'a> {
     pub(crate) pages: &'a [PageLocation],
-    ghost in_order: { accepted pages.now ≡ true },
+    ghost checked: { accepted pages.now ≡ true },
 }
 
 impl<'a> PageList<'a> {
@@ -23,9 +18,15 @@ impl<'a> PageList<'a> {
         ensures list { IfOk result (λ l. l.pages.now ≡ pages.now) }
         ensures fault { IfErr result (λ e. (accepted pages.now ≡ false) × (e ≡ BadPage (in_order None pages.now))) }
     {
-        let n = in_order(pages);
-        if n == 0 || n != pages.len() {
-            return Err(SelectionFault::BadPage(n));
+        if pages.is_empty() {
+            return Err(SelectionFault::BadPage(0));
+        }
+        let mut last = None;
+        for (i, page) in pages.iter().enumerate() {
+            if !page.fits(last) {
+                return Err(SelectionFault::BadPage(i));
+            }
+            last = Some(*page);
         }
         Ok(PageList { pages })
     }
@@ -37,16 +38,6 @@ impl<'a> PageList<'a> {
         match self.pages {
             [.., last] => last.first_row(),
             [] => 0,
-        }
-    }
-
-    // A walk from the first page and the first row on.
-    pub(crate) fn walk<S: RunSource>(&self, source: S) -> Walk<'a, S>
-        ensures { pages_left S.RunSource.rows result ≡ wanted_pages self.now.pages.now (S.RunSource.rows source) }
-    {
-        Walk {
-            pages: self.pages,
-            rows: Held::new(source),
         }
     }
 }

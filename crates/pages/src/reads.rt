@@ -1,6 +1,6 @@
-// What a page says, and which pages of a list are in order.
-ghost use Rattle.std.specs.Prelude.{◌≡◌, None};
-ghost use Rattle.pages.specs.Pages.{fine, first_row, fits, byte_range, in_order, span_bytes, span_rows};
+// What a page says.
+ghost use Rattle.std.specs.Prelude.{◌≡◌};
+ghost use Rattle.pages.specs.Pages.{fine, first_row, fits, byte_range, span_bytes, span_rows};
 
 use crate::page::{ByteRange, PageLocation};
 use crate::span::PageSpan;
@@ -20,7 +20,7 @@ impl PageLocation {
     }
 
     // Whether it may stand after the last, if there is one.
-    fn fits(self, last: Option<PageLocation>) -> bool
+    pub(crate) fn fits(self, last: Option<PageLocation>) -> bool
         ensures { result ≡ fits last self }
     {
         self.is_fine()
@@ -66,18 +66,4 @@ impl PageSpan {
             end: self.next.map_or(total, |q| q.first_row()),
         }
     }
-}
-
-// How many pages from the start on are in order.
-pub(crate) fn in_order(pages: &[PageLocation]) -> usize
-    ensures { result ≡ in_order None pages.now }
-{
-    let mut last = None;
-    for (i, page) in pages.iter().enumerate() {
-        if !page.fits(last) {
-            return i;
-        }
-        last = Some(*page);
-    }
-    pages.len()
 }

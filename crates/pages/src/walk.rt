@@ -1,8 +1,10 @@
 // The pages of a list that hold a selected row, one by one.
-ghost use Rattle.std.specs.Prelude.{length};
+ghost use Rattle.std.specs.Prelude.{◌≡◌, length};
 ghost use Rattle.std.specs.Iterator.{YieldsFirst, at_most};
+ghost use Rattle.pages.specs.Pages.{wanted_pages};
 ghost use Rattle.pages.specs.Walks.{pages_left};
 
+use crate::list::PageList;
 use crate::page::PageLocation;
 use crate::span::PageSpan;
 use runs::held::Held;
@@ -11,8 +13,20 @@ use runs::source::RunSource;
 // The pages still to come, and the rows from the first one's first row on.
 #[derive(Drop)]
 pub(crate) struct Walk<'a, S> {
-    pub(crate) pages: &'a [PageLocation],
-    pub(crate) rows: Held<S>,
+    pages: &'a [PageLocation],
+    rows: Held<S>,
+}
+
+impl<'a> PageList<'a> {
+    // A walk from the first page and the first row on.
+    pub(crate) fn walk<S: RunSource>(&self, source: S) -> Walk<'a, S>
+        ensures { pages_left S.RunSource.rows result ≡ wanted_pages self.now.pages.now (S.RunSource.rows source) }
+    {
+        Walk {
+            pages: self.pages,
+            rows: Held::new(source),
+        }
+    }
 }
 
 impl<'a, S: RunSource> Iterator for Walk<'a, S> {

@@ -11,4 +11,4 @@ returns-clause-fewest g c =
     let total = c.args.total in
     let new = c.store.new.place in
     subst (λ ps. IfOk c.store.result (λ n. FewestPages ps rows (rows_at total ps) (take n new))) c.in_ok-list.ensures.list
-    (fetched l.pages.now rows l.in_order (span_rows total) c.store.result c.args.place.now new (c.store.ensures.written (span_rows total) (λ s x p. search rules)))
+    (fetched l.pages.now rows l.checked (span_rows total) c.store.result c.args.place.now new (c.store.ensures.written (span_rows total) (λ s x p. search rules)))

@@ -10,4 +10,4 @@ returns-clause-fewest g c =
     let rows = g.S.RunSource.rows c.args.source in
     let new = c.store.new.place in
     subst (λ ps. IfOk c.store.result (λ n. FewestPages ps rows (bytes_at ps) (take n new))) c.in_ok-list.ensures.list
-    (fetched l.pages.now rows l.in_order span_bytes c.store.result c.args.place.now new (c.store.ensures.written span_bytes (λ s x p. search rules)))
+    (fetched l.pages.now rows l.checked span_bytes c.store.result c.args.place.now new (c.store.ensures.written span_bytes (λ s x p. search rules)))
