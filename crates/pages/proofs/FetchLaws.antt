@@ -6,26 +6,25 @@ use Rattle.refusals.specs.declared.fault.SelectionFault.{SelectionFault}
 use Rattle.pages.specs.declared.page.PageLocation.{PageLocation}
 use Rattle.pages.specs.declared.span.PageSpan.{PageSpan}
 use Rattle.pages.specs.Items.{Stands}
-use Rattle.pages.specs.Pages.{first_row, next_of, rises, any_row, own, later, span, wanted_pages, accepted}
+use Rattle.pages.specs.Pages.{first_row, next_of, any_row, own, later, span, wanted_pages, accepted}
 use Rattle.pages.specs.Fetch.{page_at, span_at, Holds, Selected, In, Ascending, Covers, FewestPages}
-use Rattle.pages.proofs.PageLaws.{first_of, rises-parts, tail-rises, accepted-some, accepted-rises, accepted-zero}
+use Rattle.pages.proofs.PageLaws.{Rises, first_of, accepted-some, accepted-rises, accepted-zero}
 
 -- first rows rise
-above : (p : PageLocation) (ps : List PageLocation) → rises (p ∷ ps) ≡ true → (j : ℕ) → j < length ps → first_row p < first_row (page_at ps j)
+above : (p : PageLocation) (ps : List PageLocation) → Rises (p ∷ ps) → (j : ℕ) → j < length ps → first_row p < first_row (page_at ps j)
 above p [] w j h = absurd (omega arith)
-above p (q ∷ ps) w zero h = (rises-parts p q ps w).0
+above p (q ∷ ps) w zero h = w.0
 above p (q ∷ ps) w (suc j) h =
-    let parts = rises-parts p q ps w in
-    omega (arith, parts.0, above q ps parts.1 j (omega arith))
+    omega (arith, w.0, above q ps w.1 j (omega arith))
 
-rising : (ps : List PageLocation) → rises ps ≡ true → (i j : ℕ) → i < j → j < length ps → first_row (page_at ps i) < first_row (page_at ps j)
+rising : (ps : List PageLocation) → Rises ps → (i j : ℕ) → i < j → j < length ps → first_row (page_at ps i) < first_row (page_at ps j)
 rising [] w i j h k = absurd (omega arith)
 rising (p ∷ ps) w i zero h k = absurd (omega arith)
 rising (p ∷ ps) w zero (suc j) h k = above p ps w j (omega arith)
-rising (p ∷ ps) w (suc i) (suc j) h k = rising ps (tail-rises p ps w) i j (omega arith) (omega arith)
+rising (p ∷ ps) w (suc i) (suc j) h k = rising ps w.1 i j (omega arith) (omega arith)
 
 -- a row lies in one page
-module _ (ps : List PageLocation) (w : rises ps ≡ true) where
+module _ (ps : List PageLocation) (w : Rises ps) where
   not-before : (j k r : ℕ) → Holds ps j r → Holds ps k r → j < k → ⊥
   not-before j k r hj hk lt =
       let s : suc j < length ps = omega (arith, hk.0) in
@@ -87,14 +86,14 @@ asked-suc k₀ p q ps xs k lt a =
       ),
     )
 
-asked_here : (k₀ : ℕ) (p : PageLocation) (ps : List PageLocation) (xs : List Bool) (k : ℕ) → rises (p ∷ ps) ≡ true → any_row (own p (next_of ps) xs) ≡ true → k ≡ k₀ → Asked k₀ (p ∷ ps) xs k
+asked_here : (k₀ : ℕ) (p : PageLocation) (ps : List PageLocation) (xs : List Bool) (k : ℕ) → Rises (p ∷ ps) → any_row (own p (next_of ps) xs) ≡ true → k ≡ k₀ → Asked k₀ (p ∷ ps) xs k
 asked_here k₀ p [] xs k w e same =
     let s = some-row xs e in
     (0, (omega arith, (s.0, (s.1.0, (omega arith, omega arith, λ l. absurd (omega arith))))))
 asked_here k₀ p (q ∷ ps) xs k w e same =
     let n = first_row q - first_row p in
     let s = some-row (take n xs) e in
-    let lt = (rises-parts p q ps w).0 in
+    let lt = w.0 in
     let under : s.0 < n = omega (arith, s.1.1, length-take n xs) in
     (0, (omega arith, (s.0, (sym (get_or-take n xs s.0 false under) ∙ s.1.0, (omega arith, omega arith, λ l. omega arith)))))
 
@@ -103,13 +102,13 @@ either true k j ks m here there = ⊎_elim (here refl) there m
 either false k j ks m here there = there m
 
 -- each page asked for holds a selected row
-needed-at : (k₀ : ℕ) (ps : List PageLocation) (xs : List Bool) → rises ps ≡ true → (k : ℕ) → In k (asked k₀ ps xs) → Asked k₀ ps xs k
+needed-at : (k₀ : ℕ) (ps : List PageLocation) (xs : List Bool) → Rises ps → (k : ℕ) → In k (asked k₀ ps xs) → Asked k₀ ps xs k
 needed-at k₀ [] xs w k m = absurd m
 needed-at k₀ (p ∷ []) xs w k m = either (any_row xs) k k₀ [] m (λ e s. asked_here k₀ p [] xs k w e s) (λ n. absurd n)
 needed-at k₀ (p ∷ q ∷ ps) xs w k m =
     either (any_row (own p (Some q) xs)) k k₀ (asked (suc k₀) (q ∷ ps) (later p (Some q) xs)) m
     (λ e s. asked_here k₀ p (q ∷ ps) xs k w e s)
-    (λ n. asked-suc k₀ p q ps xs k (rises-parts p q ps w).0 (needed-at (suc k₀) (q ∷ ps) (later p (Some q) xs) (rises-parts p q ps w).1 k n))
+    (λ n. asked-suc k₀ p q ps xs k w.0 (needed-at (suc k₀) (q ∷ ps) (later p (Some q) xs) w.1 k n))
 
 in-more : (b : Bool) (k j : ℕ) (ks : List ℕ) → In k ks → In k (cond b (j ∷ ks) ks)
 in-more true k j ks m = inr m
@@ -123,18 +122,18 @@ abbrev Found : ℕ → List PageLocation → List Bool → ℕ → Type 0
 Found k₀ ps xs r = (j : ℕ) × (In (k₀ + j) (asked k₀ ps xs) × Holds ps j (first_of ps + r))
 
 -- each selected row lies in a page asked for
-enough-at : (k₀ : ℕ) (ps : List PageLocation) (xs : List Bool) → rises ps ≡ true → 0 < length ps → (r : ℕ) → Selected xs r → Found k₀ ps xs r
+enough-at : (k₀ : ℕ) (ps : List PageLocation) (xs : List Bool) → Rises ps → 0 < length ps → (r : ℕ) → Selected xs r → Found k₀ ps xs r
 enough-at k₀ [] xs w some r e = absurd (omega arith)
 enough-at k₀ (p ∷ []) xs w some r e = (0, (in-first (any_row xs) (k₀ + 0) k₀ [] (row-some xs r e) (omega arith), (omega arith, omega arith, λ l. absurd (omega arith))))
 enough-at k₀ (p ∷ q ∷ ps) xs w some r e =
     let n = first_row q - first_row p in
-    let lt = (rises-parts p q ps w).0 in
+    let lt = w.0 in
     let rest = later p (Some q) xs in
     elim (cases_lt r n) [
       | inl less ↦ (0, (in-first (any_row (take n xs)) (k₀ + 0) k₀ (asked (suc k₀) (q ∷ ps) rest) (row-some (take n xs) r (get_or-take n xs r false less ∙ e)) (omega arith), (omega arith, omega arith, λ l. omega arith)))
       | inr more ↦
           let back : n + (r - n) ≡ r = omega arith in
-          let f = enough-at (suc k₀) (q ∷ ps) rest (rises-parts p q ps w).1 (omega arith) (r - n) (get_or-drop n xs (r - n) false ∙ ap (λ k. get_or xs k false) back ∙ e) in
+          let f = enough-at (suc k₀) (q ∷ ps) rest w.1 (omega arith) (r - n) (get_or-drop n xs (r - n) false ∙ ap (λ k. get_or xs k false) back ∙ e) in
           let here : suc k₀ + f.0 ≡ k₀ + suc f.0 = omega arith in
           let row : first_row q + (r - n) ≡ first_row p + r = omega arith in (
             suc f.0,
@@ -172,7 +171,7 @@ ranges-at f g k₀ (p ∷ ps) xs same =
     (ranges-at f g (suc k₀) ps (later p (next_of ps) xs) (λ j. let e : k₀ + suc j ≡ suc k₀ + j = omega arith in same (suc j) ∙ ap g e))
 
 module _ (ps : List PageLocation) (rows : List Bool) (ok : accepted ps ≡ true) where
-  w : rises ps ≡ true
+  w : Rises ps
   w = accepted-rises ps ok
 
   at_row : (r : ℕ) → first_of ps + r ≡ r

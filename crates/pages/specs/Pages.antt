@@ -1,5 +1,5 @@
 -- Pages, the lists of them that are accepted, and the ones that hold a selected row.
-use Rattle.std.specs.Prelude.{◌≡◌, ℕ, suc, ◌+◌, ◌-◌, Bool, true, false, cond, ◌&&◌, ◌||◌, List, [], ◌∷◌, map, length, take, drop, pos, Some, None, Option, ◌==◌, int_le, int_lt, nat_lt, unsigned_abs}
+use Rattle.std.specs.Prelude.{◌≡◌, ℕ, suc, ◌+◌, ◌-◌, Bool, false, cond, ◌&&◌, ◌||◌, List, [], ◌∷◌, map, length, take, drop, pos, Some, None, Option, ◌==◌, int_le, int_lt, nat_lt, unsigned_abs}
 use Rattle.rows.specs.Rows.{row_limit}
 use Rattle.pages.specs.declared.page.PageLocation.{PageLocation}
 use Rattle.pages.specs.declared.page.ByteRange.{ByteRange}
@@ -46,16 +46,6 @@ accepted ps = nat_lt 0 (length ps) && in_order None ps == length ps
 abbrev pub next_of : List PageLocation → Option PageLocation
 next_of [] = None
 next_of (p ∷ ps) = Some p
-
--- the page after p, if any, may stand there
-abbrev pub before : PageLocation → Option PageLocation → Bool
-before p None = true
-before p (Some q) = fits (Some p) q
-
--- pages in order, whatever stood before the first
-abbrev pub rises : List PageLocation → Bool
-rises [] = true
-rises (p ∷ ps) = fine p && (before p (next_of ps) && rises ps)
 
 -- a row is selected
 abbrev pub any_row : List Bool → Bool

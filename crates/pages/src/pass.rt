@@ -22,7 +22,7 @@ fn pass<S: RunSource>(rows: &mut Held<S>, n: usize) -> bool
         let m = left.min(run.row_count);
         rows.take(m);
         left -= m;
-        found = found | !run.skip;
+        found |= !run.skip;
     }
     found
 }
