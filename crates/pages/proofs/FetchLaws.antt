@@ -1,47 +1,31 @@
 -- The pages that hold a selected row are the fewest that hold them all. Assumes nothing.
 use Rattle.std.proofs.Common.{◌≡◌, ℕ, zero, suc, ◌+◌, ◌-◌, ◌<◌, ◌≤◌, Bool, true, false, cond, List, [], ◌∷◌, map, length, get_or, take, IfOk, Some, Ok, Err, Result, sym, refl, ap, ◌∙◌, subst, inl, inr, ⊎_elim, arith, length-take}
 use Rattle.std.proofs.lemmas.List.{get_or-take, get_or-drop}
-use Rattle.std.proofs.lemmas.Bool.{true≢false, cases_lt, cases_order}
+use Rattle.std.proofs.lemmas.Bool.{true≢false, cases_lt}
 use Rattle.refusals.specs.declared.fault.SelectionFault.{SelectionFault}
 use Rattle.pages.specs.declared.page.PageLocation.{PageLocation}
 use Rattle.pages.specs.declared.span.PageSpan.{PageSpan}
 use Rattle.pages.specs.Items.{Stands}
 use Rattle.pages.specs.Pages.{first_row, next_of, any_row, own, later, span, wanted_pages, accepted}
 use Rattle.pages.specs.Fetch.{page_at, span_at, Holds, Selected, In, Ascending, Covers, FewestPages}
-use Rattle.pages.proofs.PageLaws.{Rises, first_of, accepted-some, accepted-rises, accepted-zero}
+use Rattle.pages.proofs.PageLaws.{Rises, first_of, accepted-parts}
 
 -- first rows rise
-above : (p : PageLocation) (ps : List PageLocation) → Rises (p ∷ ps) → (j : ℕ) → j < length ps → first_row p < first_row (page_at ps j)
-above p [] w j h = absurd (omega arith)
-above p (q ∷ ps) w zero h = w.0
-above p (q ∷ ps) w (suc j) h =
-    omega (arith, w.0, above q ps w.1 j (omega arith))
-
-rising : (ps : List PageLocation) → Rises ps → (i j : ℕ) → i < j → j < length ps → first_row (page_at ps i) < first_row (page_at ps j)
+rising : (ps : List PageLocation) → Rises ps → (i j : ℕ) → i ≤ j → j < length ps → first_row (page_at ps i) ≤ first_row (page_at ps j)
 rising [] w i j h k = absurd (omega arith)
-rising (p ∷ ps) w i zero h k = absurd (omega arith)
-rising (p ∷ ps) w zero (suc j) h k = above p ps w j (omega arith)
+rising (p ∷ ps) w (suc i) zero h k = absurd (omega arith)
 rising (p ∷ ps) w (suc i) (suc j) h k = rising ps w.1 i j (omega arith) (omega arith)
+rising (p ∷ ps) w zero zero h k = omega arith
+rising (p ∷ []) w zero (suc j) h k = absurd (omega arith)
+rising (p ∷ q ∷ ps) w zero (suc j) h k = omega (arith, w.0, rising (q ∷ ps) w.1 zero j (omega arith) (omega arith))
 
 -- a row lies in one page
 module _ (ps : List PageLocation) (w : Rises ps) where
   not-before : (j k r : ℕ) → Holds ps j r → Holds ps k r → j < k → ⊥
-  not-before j k r hj hk lt =
-      let s : suc j < length ps = omega (arith, hk.0) in
-      elim (cases_order (suc j) k) [
-        | inl same ↦ omega (arith, hj.2 s, hk.1, ap (λ n. first_row (page_at ps n)) same)
-        | inr e ↦ elim e [
-          | inl less ↦ omega (arith, hj.2 s, hk.1, rising ps w (suc j) k less hk.0)
-          | inr more ↦ omega arith
-        ]
-      ]
+  not-before j k r hj hk lt = omega (arith, hj.2 (omega (arith, hk.0)), hk.1, rising ps w (suc j) k (omega arith) hk.0)
 
   one-page : (j k r : ℕ) → Holds ps j r → Holds ps k r → j ≡ k
-  one-page j k r hj hk =
-      elim (cases_order j k) [
-        | inl same ↦ same
-        | inr e ↦ elim e [ inl less ↦ absurd (not-before j k r hj hk less) | inr more ↦ absurd (not-before k j r hk hj more) ]
-      ]
+  one-page j k r hj hk = omega (arith, not-before j k r hj hk, not-before k j r hk hj)
 
 -- a row is selected exactly where one can be named
 some-row : (xs : List Bool) → any_row xs ≡ true → (r : ℕ) × (Selected xs r × (r < length xs))
@@ -171,21 +155,21 @@ ranges-at f g k₀ (p ∷ ps) xs same =
     (ranges-at f g (suc k₀) ps (later p (next_of ps) xs) (λ j. let e : k₀ + suc j ≡ suc k₀ + j = omega arith in same (suc j) ∙ ap g e))
 
 module _ (ps : List PageLocation) (rows : List Bool) (ok : accepted ps ≡ true) where
-  w : Rises ps
-  w = accepted-rises ps ok
+  parts : (0 < length ps) × Rises ps × (first_of ps ≡ 0)
+  parts = accepted-parts ps ok
 
   at_row : (r : ℕ) → first_of ps + r ≡ r
-  at_row r = omega (arith, accepted-zero ps ok)
+  at_row r = omega (arith, parts.2)
 
   each : (k : ℕ) → In k (asked 0 ps rows) → (r : ℕ) × (Selected rows r × Holds ps k r)
   each k m =
-      let a = needed-at 0 ps rows w k m in
+      let a = needed-at 0 ps rows parts.1 k m in
       let e : a.0 ≡ k = omega (arith, a.1.0) in
       (a.1.1.0, (a.1.1.1.0, subst (λ j. Holds ps j a.1.1.0) e (subst (λ r. Holds ps a.0 r) (at_row a.1.1.0) a.1.1.1.1)))
 
   all : Covers ps rows (λ k. In k (asked 0 ps rows))
   all r s =
-      let f = enough-at 0 ps rows w (accepted-some ps ok) r s in
+      let f = enough-at 0 ps rows parts.1 parts.0 r s in
       let e : 0 + f.0 ≡ f.0 = omega arith in
       (f.0, (subst (λ k. In k (asked 0 ps rows)) e f.1.0, subst (λ n. Holds ps f.0 n) (at_row r) f.1.1))
 
@@ -199,7 +183,7 @@ module _ (ps : List PageLocation) (rows : List Bool) (ok : accepted ps ≡ true)
     none_spare = λ choice covers k m.
         let a = each k m in
         let c = covers a.0 a.1.0 in
-        subst (λ j. choice j ≡ true) (one-page ps w c.0 k a.0 c.1.1 a.1.1) c.1.0;
+        subst (λ j. choice j ≡ true) (one-page ps parts.1 c.0 k a.0 c.1.1 a.1.1) c.1.0;
   }
 
   -- of what stands in the place

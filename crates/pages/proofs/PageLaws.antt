@@ -49,23 +49,13 @@ order-rises q (p ∷ r ∷ ps) e =
     let follows = (and_parts _ _ (and_parts (fine r) _ two.0).1).1 in
     (nat_abs-rises p.first_row_index r.first_row_index (fine-first p (and_parts (fine p) _ one.0).0) follows, order-rises (Some p) (r ∷ ps) one.1)
 
--- an accepted list
-module _ (ps : List PageLocation) (e : accepted ps ≡ true) where
-  both : (ltb 0 (length ps) ≡ true) × (eqb (in_order None ps) (length ps) ≡ true)
-  both = and_parts (ltb 0 (length ps)) (eqb (in_order None ps) (length ps)) e
-
-  order : in_order None ps ≡ length ps
-  order = eqb-true (in_order None ps) (length ps) both.1
-
-  pub accepted-some : 0 < length ps
-  accepted-some = ltb-true 0 (length ps) both.0
-
-  pub accepted-rises : Rises ps
-  accepted-rises = order-rises None ps order
-
 order-zero : (ps : List PageLocation) → in_order None ps ≡ length ps → first_of ps ≡ 0
 order-zero [] e = refl
 order-zero (p ∷ ps) e = eqb-true (first_row p) 0 (and_parts (fine p) _ (order-first (fits None p) (in_order (Some p) ps) (length ps) e).0).1
 
-pub accepted-zero : (ps : List PageLocation) → accepted ps ≡ true → first_of ps ≡ 0
-accepted-zero ps e = order-zero ps (order ps e)
+-- an accepted list has a page, and its first rows rise from 0
+pub accepted-parts : (ps : List PageLocation) → accepted ps ≡ true → (0 < length ps) × Rises ps × (first_of ps ≡ 0)
+accepted-parts ps e =
+    let both = and_parts (ltb 0 (length ps)) (eqb (in_order None ps) (length ps)) e in
+    let order = eqb-true (in_order None ps) (length ps) both.1 in
+    (ltb-true 0 (length ps) both.0, order-rises None ps order, order-zero ps order)

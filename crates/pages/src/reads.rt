@@ -1,11 +1,9 @@
 // What a page says.
 ghost use Rattle.std.specs.Prelude.{◌≡◌};
-ghost use Rattle.pages.specs.Pages.{fine, first_row, fits, byte_range, span_bytes, span_rows};
+ghost use Rattle.pages.specs.Pages.{fine, first_row, fits, byte_range};
 
 use crate::page::{ByteRange, PageLocation};
-use crate::span::PageSpan;
 use rows::limit::ROW_LIMIT;
-use rows::range::RowRange;
 
 // No number of a page in order is negative, so its size without a sign is the number itself.
 impl PageLocation {
@@ -38,32 +36,13 @@ impl PageLocation {
     }
 
     // Where its bytes lie.
-    fn byte_range(self) -> ByteRange
+    pub(crate) fn byte_range(self) -> ByteRange
         ensures { result ≡ byte_range self }
     {
         let start = self.offset.unsigned_abs();
         ByteRange {
             start,
             end: start + self.compressed_page_size.unsigned_abs() as u64,
-        }
-    }
-}
-
-impl PageSpan {
-    // Where its bytes lie.
-    pub(crate) fn bytes(self) -> ByteRange
-        ensures { result ≡ span_bytes self }
-    {
-        self.page.byte_range()
-    }
-
-    // Its rows, where the last page's end at the total.
-    pub(crate) fn rows(self, total: usize) -> RowRange
-        ensures { result ≡ span_rows total self }
-    {
-        RowRange {
-            start: self.page.first_row(),
-            end: self.next.map_or(total, |q| q.first_row()),
         }
     }
 }
