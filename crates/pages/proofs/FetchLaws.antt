@@ -28,10 +28,10 @@ module _ (ps : List PageLocation) (w : Rises ps) where
   one-page j k r hj hk = omega (arith, not-before j k r hj hk, not-before k j r hk hj)
 
 -- a row is selected exactly where one can be named
-some-row : (xs : List Bool) → any_row xs ≡ true → (r : ℕ) × (Selected xs r × (r < length xs))
+some-row : (xs : List Bool) → any_row xs ≡ true → (r : ℕ) × Selected xs r × (r < length xs)
 some-row [] e = absurd (true≢false (sym e))
-some-row (true ∷ xs) e = (0, (refl, omega arith))
-some-row (false ∷ xs) e = let s = some-row xs e in (suc s.0, (s.1.0, omega (arith, s.1.1)))
+some-row (true ∷ xs) e = (0, refl, omega arith)
+some-row (false ∷ xs) e = let s = some-row xs e in (suc s.0, s.1, omega (arith, s.2))
 
 row-some : (xs : List Bool) (r : ℕ) → Selected xs r → any_row xs ≡ true
 row-some [] r e = absurd (true≢false (sym e))
@@ -45,41 +45,27 @@ asked k [] xs = []
 asked k (p ∷ ps) xs = cond (any_row (own p (next_of ps) xs)) (k ∷ asked (suc k) ps (later p (next_of ps) xs)) (asked (suc k) ps (later p (next_of ps) xs))
 
 -- what page j holds, it holds with a page in front
-holds-suc : (p : PageLocation) (ps : List PageLocation) (j r : ℕ) → Holds ps j r → Holds (p ∷ ps) (suc j) r
-holds-suc p ps j r h = (omega (arith, h.0), h.1, λ l. h.2 (omega arith))
+holds-suc : (p : PageLocation) (ps : List PageLocation) (j r n : ℕ) → r ≡ n → Holds ps j r → Holds (p ∷ ps) (suc j) n
+holds-suc p ps j r n e h = (omega (arith, h.0), omega (arith, h.1), λ l. omega (arith, h.2 (omega arith)))
 
 -- k is the place, counted from k₀, of a page that holds a selected row
 abbrev Asked : ℕ → List PageLocation → List Bool → ℕ → Type 0
-Asked k₀ ps xs k = (j : ℕ) × ((k ≡ k₀ + j) × ((r : ℕ) × (Selected xs r × Holds ps j (first_of ps + r))))
+Asked k₀ ps xs k = (j : ℕ) × (k ≡ k₀ + j) × (r : ℕ) × Selected xs r × Holds ps j (first_of ps + r)
 
 asked-suc : (k₀ : ℕ) (p q : PageLocation) (ps : List PageLocation) (xs : List Bool) (k : ℕ) → first_row p < first_row q → Asked (suc k₀) (q ∷ ps) (later p (Some q) xs) k → Asked k₀ (p ∷ q ∷ ps) xs k
 asked-suc k₀ p q ps xs k lt a =
     let n = first_row q - first_row p in
-    let r = a.1.1.0 in
-    let e : first_row q + r ≡ first_row p + (n + r) = omega arith in (
-      suc a.0,
-      (
-        omega (arith, a.1.0),
-        (
-          n + r,
-          (
-            sym (get_or-drop n xs r false) ∙ a.1.1.1.0,
-            subst (λ m. Holds (p ∷ q ∷ ps) (suc a.0) m) e (holds-suc p (q ∷ ps) a.0 (first_row q + r) a.1.1.1.1),
-          ),
-        ),
-      ),
-    )
+    (suc a.0, omega (arith, a.1), n + a.2, sym (get_or-drop n xs a.2 false) ∙ a.3, holds-suc p (q ∷ ps) a.0 (first_row q + a.2) (first_row p + (n + a.2)) (omega arith) a.4)
 
 asked_here : (k₀ : ℕ) (p : PageLocation) (ps : List PageLocation) (xs : List Bool) (k : ℕ) → Rises (p ∷ ps) → any_row (own p (next_of ps) xs) ≡ true → k ≡ k₀ → Asked k₀ (p ∷ ps) xs k
 asked_here k₀ p [] xs k w e same =
     let s = some-row xs e in
-    (0, (omega arith, (s.0, (s.1.0, (omega arith, omega arith, λ l. absurd (omega arith))))))
+    (0, omega arith, s.0, s.1, (omega arith, omega arith, λ l. absurd (omega arith)))
 asked_here k₀ p (q ∷ ps) xs k w e same =
     let n = first_row q - first_row p in
     let s = some-row (take n xs) e in
-    let lt = w.0 in
-    let under : s.0 < n = omega (arith, s.1.1, length-take n xs) in
-    (0, (omega arith, (s.0, (sym (get_or-take n xs s.0 false under) ∙ s.1.0, (omega arith, omega arith, λ l. omega arith)))))
+    let under : s.0 < n = omega (arith, s.2, length-take n xs) in
+    (0, omega arith, s.0, sym (get_or-take n xs s.0 false under) ∙ s.1, (omega arith, omega arith, λ l. omega (arith, w.0)))
 
 either : {P : Type 0} (b : Bool) (k j : ℕ) (ks : List ℕ) → In k (cond b (j ∷ ks) ks) → (b ≡ true → k ≡ j → P) → (In k ks → P) → P
 either true k j ks m here there = ⊎_elim (here refl) there m
@@ -103,29 +89,25 @@ in-first true k j ks e s = inl s
 in-first false k j ks e s = absurd (true≢false (sym e))
 
 abbrev Found : ℕ → List PageLocation → List Bool → ℕ → Type 0
-Found k₀ ps xs r = (j : ℕ) × (In (k₀ + j) (asked k₀ ps xs) × Holds ps j (first_of ps + r))
+Found k₀ ps xs r = (j : ℕ) × In (k₀ + j) (asked k₀ ps xs) × Holds ps j (first_of ps + r)
 
 -- each selected row lies in a page asked for
 enough-at : (k₀ : ℕ) (ps : List PageLocation) (xs : List Bool) → Rises ps → 0 < length ps → (r : ℕ) → Selected xs r → Found k₀ ps xs r
 enough-at k₀ [] xs w some r e = absurd (omega arith)
-enough-at k₀ (p ∷ []) xs w some r e = (0, (in-first (any_row xs) (k₀ + 0) k₀ [] (row-some xs r e) (omega arith), (omega arith, omega arith, λ l. absurd (omega arith))))
+enough-at k₀ (p ∷ []) xs w some r e =
+    (0, in-first (any_row xs) (k₀ + 0) k₀ [] (row-some xs r e) (omega arith), (omega arith, omega arith, λ l. absurd (omega arith)))
 enough-at k₀ (p ∷ q ∷ ps) xs w some r e =
     let n = first_row q - first_row p in
-    let lt = w.0 in
     let rest = later p (Some q) xs in
+    let own-rows = any_row (take n xs) in
+    let others = asked (suc k₀) (q ∷ ps) rest in
     elim (cases_lt r n) [
-      | inl less ↦ (0, (in-first (any_row (take n xs)) (k₀ + 0) k₀ (asked (suc k₀) (q ∷ ps) rest) (row-some (take n xs) r (get_or-take n xs r false less ∙ e)) (omega arith), (omega arith, omega arith, λ l. omega arith)))
+      | inl less ↦ (0, in-first own-rows (k₀ + 0) k₀ others (row-some (take n xs) r (get_or-take n xs r false less ∙ e)) (omega arith), (omega arith, omega arith, λ l. omega (arith, w.0)))
       | inr more ↦
           let back : n + (r - n) ≡ r = omega arith in
           let f = enough-at (suc k₀) (q ∷ ps) rest w.1 (omega arith) (r - n) (get_or-drop n xs (r - n) false ∙ ap (λ k. get_or xs k false) back ∙ e) in
           let here : suc k₀ + f.0 ≡ k₀ + suc f.0 = omega arith in
-          let row : first_row q + (r - n) ≡ first_row p + r = omega arith in (
-            suc f.0,
-            (
-              in-more (any_row (take n xs)) (k₀ + suc f.0) k₀ (asked (suc k₀) (q ∷ ps) rest) (subst (λ k. In k (asked (suc k₀) (q ∷ ps) rest)) here f.1.0),
-              subst (λ m. Holds (p ∷ q ∷ ps) (suc f.0) m) row (holds-suc p (q ∷ ps) f.0 (first_row q + (r - n)) f.1.1),
-            ),
-          )
+          (suc f.0, in-more own-rows (k₀ + suc f.0) k₀ others (subst (λ k. In k others) here f.1), holds-suc p (q ∷ ps) f.0 (first_row q + (r - n)) (first_row p + r) (omega (arith, w.0)) f.2)
     ]
 
 -- they are asked for in order
@@ -158,20 +140,19 @@ module _ (ps : List PageLocation) (rows : List Bool) (ok : accepted ps ≡ true)
   parts : (0 < length ps) × Rises ps × (first_of ps ≡ 0)
   parts = accepted-parts ps ok
 
-  at_row : (r : ℕ) → first_of ps + r ≡ r
-  at_row r = omega (arith, parts.2)
-
   each : (k : ℕ) → In k (asked 0 ps rows) → (r : ℕ) × (Selected rows r × Holds ps k r)
   each k m =
       let a = needed-at 0 ps rows parts.1 k m in
-      let e : a.0 ≡ k = omega (arith, a.1.0) in
-      (a.1.1.0, (a.1.1.1.0, subst (λ j. Holds ps j a.1.1.0) e (subst (λ r. Holds ps a.0 r) (at_row a.1.1.0) a.1.1.1.1)))
+      let here : a.0 ≡ k = omega (arith, a.1) in
+      let row : first_of ps + a.2 ≡ a.2 = omega (arith, parts.2) in
+      (a.2, (a.3, subst (λ j. Holds ps j a.2) here (subst (λ r. Holds ps a.0 r) row a.4)))
 
   all : Covers ps rows (λ k. In k (asked 0 ps rows))
   all r s =
       let f = enough-at 0 ps rows parts.1 parts.0 r s in
-      let e : 0 + f.0 ≡ f.0 = omega arith in
-      (f.0, (subst (λ k. In k (asked 0 ps rows)) e f.1.0, subst (λ n. Holds ps f.0 n) (at_row r) f.1.1))
+      let here : 0 + f.0 ≡ f.0 = omega arith in
+      let row : first_of ps + r ≡ r = omega (arith, parts.2) in
+      (f.0, (subst (λ k. In k (asked 0 ps rows)) here f.1, subst (λ n. Holds ps f.0 n) row f.2))
 
   fewest : {X : Type 0} (f : PageSpan → X) → FewestPages ps rows (λ k. f (span_at ps k)) (map f (wanted_pages ps rows))
   fewest f = record {

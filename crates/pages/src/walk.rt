@@ -49,8 +49,4 @@ impl<'a, S: RunSource> Iterator for Walk<'a, S> {
         }
         None
     }
-
-    fn size_hint(&self) -> (usize, Option<usize>) {
-        (0, Some(self.pages.len()))
-    }
 }
