@@ -12,8 +12,8 @@ use runs::place::Place;
 use runs::source::RunSource;
 
 impl<'a> PageList<'a> {
-    // Whether a place of so many slots takes what is told of each page that holds a selected row. They are counted only where it may not.
-    fn fits<S: RunSource>(&self, source: S, slots: usize) -> Result<(), SelectionFault>
+    // Refuses a place of too few slots for the pages that hold a selected row. These are counted only where there are more pages than slots.
+    fn check_room<S: RunSource>(&self, source: S, slots: usize) -> Result<(), SelectionFault>
         ensures few { IfOk result (λ _. length (wanted_pages self.now.pages.now (S.RunSource.rows source)) ≤ slots) }
         ensures many { IfErr result (λ e. (slots < length (wanted_pages self.now.pages.now (S.RunSource.rows source))) × (e ≡ PlaceTooSmall (length (wanted_pages self.now.pages.now (S.RunSource.rows source))))) }
     {
@@ -38,7 +38,7 @@ impl<'a> PageList<'a> {
         ensures verdict { (h : PageSpan → T) → Tells (F.post tell) h → verdict result ≡ stored (length place.old) (map h (wanted_pages self.now.pages.now (S.RunSource.rows source))) }
         ensures written { (h : PageSpan → T) → Tells (F.post tell) h → Stands (map h (wanted_pages self.now.pages.now (S.RunSource.rows source))) result place.old place.new }
     {
-        self.fits(source, place.len())?;
+        self.check_room(source, place.len())?;
         let mut out = Place::new(place);
         for page in self.walk(source) {
             if !out.push(tell(page)) {
