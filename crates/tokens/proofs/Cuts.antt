@@ -1,46 +1,44 @@
--- The first word of a text, and what comes after it. Assumes nothing.
-use Rattle.std.proofs.Common.{◌≡◌, ℕ, zero, suc, ◌+◌, ◌-◌, ◌<◌, ◌≤◌, Bool, true, cond, List, [], ◌∷◌, length, get_or, take, drop, Some, None, sym, refl, ap, ◌∙◌, add-one, arith, eq-eqb, ne_eqb}
-use Rattle.std.proofs.lemmas.List.{take_all, take_rest}
-use Rattle.tokens.specs.Words.{words_of, longer, behind}
+-- The first word of a text, and the words after it. Assumes nothing.
+use Rattle.std.proofs.Common.{◌≡◌, ℕ, suc, ◌+◌, Bool, true, false, not, nat_lt, cond, List, [], ◌∷◌, length, take, drop, Some, None, Option, Bor, position, unwrap_or, ◌==◌, sym, refl, ap, ◌∙◌, add-one, arith}
+use Rattle.std.specs.List.{position_or_len}
+use Rattle.std.specs.Slice.{IsGetRangeResult}
+use Rattle.std.specs.Option.{option_map_or}
+use Rattle.std.proofs.lemmas.Bool.Decides.{nat_tests}
+use Rattle.std.proofs.lemmas.List.{take_rest}
+use Rattle.std.proofs.lemmas.List.Sums.{prefix_len-le-length}
+use Rattle.tokens.specs.Words.{words_of, longer}
 
-abbrev at-space : Bool → ℕ → List ℕ → List (List ℕ)
-at-space t b bs = cond t ([] ∷ words_of bs) (longer b (words_of bs))
+abbrev is_space : ℕ → Bool
+is_space b = b == 32
 
--- a space ends the word
-pub cut-more : (t : List ℕ) (n : ℕ) → n < length t → ((k : ℕ) → k < n → get_or t k 0 ≡ 32 → ⊥) → get_or t n 0 ≡ 32 → words_of t ≡ take n t ∷ words_of (drop (suc n) t)
-cut-more [] n h before found = absurd (omega arith)
-cut-more (b ∷ bs) zero h before found = ap (λ t. at-space t b bs) (eq-eqb b 32 found)
-cut-more (b ∷ bs) (suc n) h before found =
-    ap (λ t. at-space t b bs) (ne_eqb b 32 (before 0 (omega arith)))
-    ∙ ap (longer b) (cut-more bs n (omega arith) (λ k l. before (suc k) (omega arith)) found)
+-- the words behind the first n bytes of a text and the space there
+abbrev behind : ℕ → List ℕ → List (List ℕ)
+behind n t = cond (nat_lt n (length t)) (words_of (drop (suc n) t)) []
 
--- with no space there is one word
-pub cut-last : (t : List ℕ) → ((k : ℕ) → k < length t → get_or t k 0 ≡ 32 → ⊥) → words_of t ≡ t ∷ []
-cut-last [] before = refl
-cut-last (b ∷ bs) before =
-    ap (λ t. at-space t b bs) (ne_eqb b 32 (before 0 (omega arith)))
-    ∙ ap (longer b) (cut-last bs (λ k l. before (suc k) (omega arith)))
+-- a text is its first word, up to a space or the end, and the words behind
+cut : (t : List ℕ) (n : ℕ) → n ≡ position_or_len is_space t → words_of t ≡ take n t ∷ behind n t
+cut [] n e = rw e refl
+cut (b ∷ bs) n e = step (b == 32) (cut bs (position_or_len is_space bs) refl) e
+  where
+    step : (s : Bool) → words_of bs ≡ take (position_or_len is_space bs) bs ∷ behind (position_or_len is_space bs) bs → n ≡ cond (not s) (1 + position_or_len is_space bs) 0 → cond s ([] ∷ words_of bs) (longer b (words_of bs)) ≡ take n (b ∷ bs) ∷ behind n (b ∷ bs)
+    step true ih e =
+        let some : nat_lt 0 (length (b ∷ bs)) ≡ true = grind (arith, nat_tests) in
+        rw e (ap (λ s. [] ∷ cond s (words_of bs) []) (sym some))
+    step false ih e =
+        let k = position_or_len is_space bs in
+        let one : n ≡ suc k = omega (arith, e) in
+        let same : nat_lt (suc k) (length (b ∷ bs)) ≡ nat_lt k (length bs) = grind (arith, nat_tests) in
+        rw one (ap (longer b) ih ∙ ap (λ s. (b ∷ take k bs) ∷ cond s (words_of (drop (suc k) bs)) []) (sym same))
 
--- the same of what a walk has left, m saying that there is a word
-module _ (t : List ℕ) (n : ℕ) (m : Bool) (some : m ≡ true) (before : (k : ℕ) → k < n → get_or t k 0 ≡ 32 → ⊥) where
-  pub next_more : n < length t → get_or t n 0 ≡ 32 → cond m (words_of t) [] ≡ take (n - 0) t ∷ cond m (words_of (take (length t - (n + 1)) (drop (n + 1) t))) []
-  next_more h found =
-      let z : n ≡ n - 0 = omega arith in
-      ap (λ b. cond b (words_of t) []) some
-      ∙ cut-more t n h before found
-      ∙ ap (λ l. take n t ∷ words_of l) (ap (λ k. drop k t) (sym (add-one n)) ∙ sym (take_rest t (n + 1)))
-      ∙ ap (λ k. take k t ∷ words_of (take (length t - (n + 1)) (drop (n + 1) t))) z
-      ∙ ap (λ b. take (n - 0) t ∷ cond b (words_of (take (length t - (n + 1)) (drop (n + 1) t))) []) (sym some)
+place : (t : List ℕ) → unwrap_or (position is_space t) (length t) ≡ position_or_len is_space t
+place t = grind (arith, nat_tests, prefix_len-le-length)
 
-  pub next_last : n ≤ length t → length t ≤ n → cond m (words_of t) [] ≡ take (n - 0) t ∷ []
-  next_last h l =
-      let z : n ≡ n - 0 = omega arith in
-      ap (λ b. cond b (words_of t) []) some
-      ∙ cut-last t (λ k below. before k (omega arith))
-      ∙ ap (λ w. w ∷ []) (sym (take_all n t l) ∙ ap (λ k. take k t) z)
-
-pub behind-first : (mark : ℕ) (w : List ℕ) → 0 < length w → get_or w 0 0 ≡ mark → Some (take (length w - 1) (drop 1 w)) ≡ behind mark w
-behind-first mark [] h e = absurd (omega arith)
-behind-first mark (b ∷ bs) h e =
-    let z : length bs ≤ length (b ∷ bs) - 1 = omega arith in
-    ap Some (take_all (length (b ∷ bs) - 1) bs z) ∙ sym (ap (λ t. cond t (Some bs) None) (eq-eqb b mark e))
+pub next_word : (t : List ℕ) (n : ℕ) (r : Option (Bor (List ℕ))) → n ≡ unwrap_or (position is_space t) (length t) → IsGetRangeResult t (n + 1) (length t) r → words_of t ≡ take n t ∷ option_map_or (λ rest. words_of rest.now) r []
+next_word t n None e h =
+    let past : nat_lt n (length t) ≡ false = grind (arith, nat_tests, h.0) in
+    cut t n (e ∙ place t) ∙ ap (λ s. take n t ∷ cond s (words_of (drop (suc n) t)) []) past
+next_word t n (Some x) e h =
+    let within : nat_lt n (length t) ≡ true = grind (arith, nat_tests, h.0.0) in
+    cut t n (e ∙ place t)
+    ∙ ap (λ s. take n t ∷ cond s (words_of (drop (suc n) t)) []) within
+    ∙ ap (λ l. take n t ∷ words_of l) (sym (h.0.2 ∙ take_rest t (n + 1) ∙ ap (λ k. drop k t) (add-one n)))

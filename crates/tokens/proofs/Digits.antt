@@ -1,13 +1,11 @@
 -- Digits one after another. Assumes nothing.
-use Rattle.std.proofs.Common.{◌≡◌, ℕ, ◌+◌, ◌-◌, ◌*◌, ◌^◌, ◌<◌, ◌≤◌, Bool, true, false, cond, List, [], ◌∷◌, length, Some, None, Option, sym, refl, ap, ◌∙◌, arith}
+use Rattle.std.proofs.Common.{◌≡◌, ℕ, ◌+◌, ◌-◌, ◌*◌, ◌^◌, ◌<◌, ◌≤◌, Bool, true, false, cond, List, [], ◌∷◌, length, Some, None, Option, sym, refl, ap, arith}
 use Rattle.std.proofs.lemmas.Bool.Decides.{nat_tests}
+use Rattle.std.proofs.lemmas.Option.{none-some}
 use Rattle.tokens.specs.Words.{below, is_digit, digits_after, digit_after, number_of}
 
-none-some : {X : Type 0} (x : X) → None ≡ Some x → ⊥
-none-some x e = let z : ◌≡◌ {A = ℕ} 0 1 = cc in omega arith
-
-pub below-some : (limit n : ℕ) → n < limit → below limit (Some n) ≡ Some n
-below-some limit n h = grind (arith, nat_tests)
+pub below_some : (limit n : ℕ) → n < limit → below limit (Some n) ≡ Some n
+below_some limit n h = grind (arith, nat_tests)
 
 some_below : (limit n m : ℕ) → below limit (Some n) ≡ Some m → (n ≡ m) × (m < limit)
 some_below limit n m e = grind (arith, nat_tests)
@@ -15,7 +13,7 @@ some_below limit n m e = grind (arith, nat_tests)
 not-below : (limit n : ℕ) → below limit (Some n) ≡ None → limit ≤ n
 not-below limit n e = grind (arith, nat_tests)
 
-pub none_below : (limit n : ℕ) → limit ≤ n → below limit (Some n) ≡ None
+none_below : (limit n : ℕ) → limit ≤ n → below limit (Some n) ≡ None
 none_below limit n h = grind (arith, nat_tests)
 
 -- more digits make no smaller number
@@ -50,6 +48,3 @@ stop n b bs e = step (is_digit b) (sym e)
 pub whole : (w : List ℕ) → 0 < length w → number_of w ≡ below (2 ^ 64) (digits_after 0 w)
 whole [] h = absurd (omega arith)
 whole (b ∷ bs) h = refl
-
-pub all_read : (n : ℕ) (o : Option ℕ) → n < 2 ^ 64 → Some n ≡ o → Some n ≡ below (2 ^ 64) o
-all_read n o h e = sym (ap (below (2 ^ 64)) (sym e) ∙ below-some (2 ^ 64) n h)

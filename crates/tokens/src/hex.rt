@@ -1,10 +1,11 @@
 // Bytes in hexadecimal digits.
-ghost use Rattle.std.specs.Prelude.{◌≡◌, IfOk, vec_items};
-ghost use Rattle.std.specs.Option.{option_map};
+ghost use Rattle.std.specs.Prelude.{◌≡◌, vec_items};
 ghost use Rattle.tokens.specs.Words.{hex_digit, hex_byte, hex_bytes, bytes_of};
+ghost use Rattle.tokens.specs.Reads.{Reads};
 
+use crate::error::WordError;
 use crate::word::is;
-use std::alloc::{AllocError, Global};
+use std::alloc::Global;
 
 // The value of a digit; the letters are in lower case.
 fn digit(b: u8) -> Option<u8>
@@ -21,39 +22,32 @@ fn digit(b: u8) -> Option<u8>
 fn byte(high: u8, low: u8) -> Option<u8>
     ensures { result ≡ hex_byte high low }
 {
-    match (digit(high), digit(low)) {
-        (Some(high), Some(low)) => Some(16 * high + low),
-        _ => None,
-    }
+    Some(16 * digit(high)? + digit(low)?)
 }
 
 // Two digits for each byte.
-fn pairs(heap: Global, word: &[u8]) -> Result<Option<Vec<u8>>, AllocError>
-    ensures { IfOk result (λ o. option_map vec_items o ≡ hex_bytes word.now) }
+#[tactic(auto, using(crate::proofs::Pairs::whole, crate::proofs::Pairs::odd))]
+fn pairs(heap: Global, word: &[u8]) -> Result<Vec<u8>, WordError>
+    ensures { Reads vec_items result (hex_bytes word.now) }
 {
+    let (pairs, []) = word.as_chunks::<2>() else {
+        return Err(WordError::Malformed);
+    };
     let mut found = Vec::new(heap);
-    let mut i = 0;
-    while word.len() - i >= 2 {
-        let Some(b) = byte(word[i], word[i + 1]) else {
-            return Ok(None);
-        };
-        found.push(b)?;
-        i += 2;
+    for [high, low] in pairs {
+        found.push(byte(*high, *low).ok_or(WordError::Malformed)?)?;
     }
-    if i < word.len() {
-        return Ok(None);
-    }
-    Ok(Some(found))
+    Ok(found)
 }
 
 // The bytes that a word writes: two digits for each, or a dash for none.
-pub fn bytes(heap: Global, word: &[u8]) -> Result<Option<Vec<u8>>, AllocError>
-    ensures { IfOk result (λ o. option_map vec_items o ≡ bytes_of word.now) }
+pub fn bytes(heap: Global, word: &[u8]) -> Result<Vec<u8>, WordError>
+    ensures { Reads vec_items result (bytes_of word.now) }
 {
     if is(word, b"-") {
-        Ok(Some(Vec::new(heap)))
+        Ok(Vec::new(heap))
     } else if word.is_empty() {
-        Ok(None)
+        Err(WordError::Malformed)
     } else {
         pairs(heap, word)
     }

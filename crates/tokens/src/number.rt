@@ -15,6 +15,7 @@ fn with_digit(n: usize, b: u8) -> Option<usize>
 }
 
 // The number that a word writes: digits only, and below 2 to the 64th.
+#[tactic(auto, using(crate::proofs::Digits::more, crate::proofs::Digits::whole, crate::proofs::Digits::below_some))]
 pub fn number(word: &[u8]) -> Option<usize>
     ensures { result ≡ number_of word.now }
 {

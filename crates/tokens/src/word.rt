@@ -15,9 +15,5 @@ pub fn is(word: &[u8], text: &[u8]) -> bool
 pub fn behind(mark: u8, word: &[u8]) -> Option<&[u8]>
     ensures { option_map (λ x. x.now) result ≡ rest mark word.now }
 {
-    if !word.is_empty() && word[0] == mark {
-        Some(&word[1..])
-    } else {
-        None
-    }
+    word.strip_prefix(&[mark])
 }

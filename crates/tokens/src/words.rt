@@ -1,27 +1,13 @@
 // The words of a line, taken one by one.
-ghost use Rattle.std.specs.Prelude.{◌≡◌, ℕ, ◌<◌, ◌≤◌, [], ◌∷◌, length, MatchOption, ◌≢◌, slice_index};
+ghost use Rattle.std.specs.Prelude.{◌≡◌, ◌==◌, position};
+ghost use Rattle.std.specs.Iterator.{YieldsFirstRef, item_count};
 ghost use Rattle.tokens.specs.Words.{words_of};
 ghost use Rattle.tokens.specs.Left.{left};
 
 // What is left of a line: words one space apart, or no word at all.
 #[derive(Clone, Copy)]
 pub struct Words<'a> {
-    rest: &'a [u8],
-    more: bool,
-}
-
-// How many bytes stand before the first space.
-fn word_len(text: &[u8]) -> usize
-    ensures within { result ≤ length text.now }
-    ensures before { (k : ℕ) → k < result → slice_index text.now k ≢ 32 }
-    ensures found { result < length text.now → slice_index text.now result ≡ 32 }
-{
-    for (i, b) in text.iter().enumerate() {
-        if *b == b' ' {
-            return i;
-        }
-    }
-    text.len()
+    rest: Option<&'a [u8]>,
 }
 
 impl<'a> Words<'a> {
@@ -29,26 +15,30 @@ impl<'a> Words<'a> {
     pub fn new(line: &'a [u8]) -> Words<'a>
         ensures { left result ≡ words_of line.now }
     {
-        Words {
-            rest: line,
-            more: true,
-        }
+        Words { rest: Some(line) }
     }
+}
+
+// How many bytes stand before the first space.
+fn first_space(text: &[u8]) -> Option<usize>
+    ensures { result ≡ position (λ b. b == 32) text.now }
+{
+    text.iter().position(|b| *b == b' ')
+}
+
+impl<'a> Iterator for Words<'a> {
+    type Item = &'a [u8];
+
+    ghost next_gives = { YieldsFirstRef left };
+
+    ghost remaining = { item_count left };
 
     // The next word, which is removed.
-    pub fn next(&mut self) -> Option<&'a [u8]>
-        ensures { MatchOption result ((left self.old ≡ []) × (left self.new ≡ [])) (λ w. left self.old ≡ w.now ∷ left self.new) }
-    {
-        if !self.more {
-            return None;
-        }
-        let text = self.rest;
-        let end = word_len(text);
-        if end < text.len() {
-            self.rest = &text[end + 1..];
-        } else {
-            self.more = false;
-        }
-        Some(&text[0..end])
+    #[tactic(auto, using(crate::proofs::Cuts::next_word))]
+    fn next(&mut self) -> Option<&'a [u8]> {
+        let text = self.rest?;
+        let end = first_space(text).unwrap_or(text.len());
+        self.rest = text.get(end + 1..);
+        Some(&text[..end])
     }
 }
