@@ -8,8 +8,7 @@ use Rattle.scripts.specs.declared.command.Verb.{Verb}
 use Rattle.scripts.specs.declared.command.Arg.{Arg}
 use Rattle.scripts.specs.declared.command.Tail.{Tail}
 use Rattle.scripts.specs.declared.command.Tail.TheVariants as tail
-use Rattle.scripts.specs.declared.command.Line.{Line}
-use Rattle.scripts.specs.declared.command.Line.TheVariants as line
+use Rattle.scripts.specs.declared.command.Command.{Command}
 
 -- a line says nothing, is not of the form, or says a command
 pub data Said : Type 0 where
@@ -47,7 +46,9 @@ listed_in (tail.Runs v) = runs (vec_items v)
 listed_in (tail.Ranges v) = ranges (vec_items v)
 listed_in (tail.Pages v) = pages (vec_items v)
 
-abbrev pub said : Line → Said
-said line.Nothing = silent
-said line.Misuse = misuse
-said (line.Command c) = command c.verb (vec_items c.head) (listed_in c.tail)
+abbrev pub spoken : Command → Said
+spoken c = command c.verb (vec_items c.head) (listed_in c.tail)
+
+abbrev pub said : Option Command → Said
+said None = silent
+said (Some c) = spoken c

@@ -1,10 +1,10 @@
-// What a line says: a command with its arguments and what is listed behind them, or nothing.
+// A command, with its arguments and what is listed behind them.
 use pages::page::PageLocation;
 use rows::range::RowRange;
 use rows::selector::RowSelector;
 
 // The first word of a command.
-#[derive(Clone, Copy)]
+#[derive(Clone, Copy, PartialEq, Eq, Debug)]
 pub enum Verb {
     Reset,
     Runs,
@@ -42,7 +42,7 @@ pub enum Verb {
 }
 
 // Where a result goes: in its natural form, or into runs or a mask of that many runs or bytes.
-#[derive(Clone, Copy)]
+#[derive(Clone, Copy, PartialEq, Eq, Debug)]
 pub enum Place {
     Natural,
     Runs(usize),
@@ -50,7 +50,7 @@ pub enum Place {
 }
 
 // An argument; of the loaded rows the slot, or none where all are loaded.
-#[derive(Clone, Copy)]
+#[derive(Clone, Copy, PartialEq, Eq, Debug)]
 pub enum Arg {
     Slot(usize),
     Number(usize),
@@ -73,12 +73,4 @@ pub struct Command {
     pub verb: Verb,
     pub head: Vec<Arg>,
     pub tail: Tail,
-}
-
-// A line that says nothing, one that is not of the form, or one that says a command.
-#[derive(Drop)]
-pub enum Line {
-    Nothing,
-    Misuse,
-    Command(Command),
 }

@@ -7,7 +7,7 @@ use crate::command::Verb;
 use tokens::word::is;
 
 // What an argument has to be.
-#[derive(Clone, Copy)]
+#[derive(Clone, Copy, PartialEq, Eq, Debug)]
 pub(crate) enum Kind {
     Slot,
     Number,
@@ -16,7 +16,7 @@ pub(crate) enum Kind {
 }
 
 // What stands behind the arguments.
-#[derive(Clone, Copy)]
+#[derive(Clone, Copy, PartialEq, Eq, Debug)]
 pub(crate) enum Ending {
     Nothing,
     Bytes,
@@ -268,12 +268,7 @@ const RULES: [Rule; 33] = [
 fn among(rules: &[Rule], name: &[u8]) -> Option<Rule>
     ensures { option_map entry_of result ≡ entry_named name.now (map entry_of rules.now) }
 {
-    for rule in rules {
-        if is(name, rule.name) {
-            return Some(*rule);
-        }
-    }
-    None
+    rules.iter().find(|rule| is(name, rule.name)).copied()
 }
 
 // The rule of the command with this name.

@@ -1,12 +1,13 @@
 // The arguments of a command, by their kinds.
-ghost use Rattle.std.specs.Prelude.{◌≡◌, IfOk, vec_items};
-ghost use Rattle.std.specs.Option.{option_map};
+ghost use Rattle.std.specs.Prelude.{◌≡◌, vec_items};
 ghost use Rattle.scripts.specs.Args.{before, slot_of, loaded_of, sized_of, place_of, arg_of, head_of};
 ghost use Rattle.tokens.specs.Left.{left};
+ghost use Rattle.tokens.specs.Reads.{Reads};
 
 use crate::command::{Arg, Place};
 use crate::grammar::Kind;
-use std::alloc::{AllocError, Global};
+use std::alloc::Global;
+use tokens::error::WordError;
 use tokens::number::number;
 use tokens::word::is;
 use tokens::words::Words;
@@ -17,8 +18,7 @@ const SLOTS: usize = 16;
 fn slot(word: &[u8]) -> Option<usize>
     ensures { result ≡ slot_of word.now }
 {
-    let n = number(word)?;
-    if n < SLOTS { Some(n) } else { None }
+    number(word).filter(|n| *n < SLOTS)
 }
 
 // A slot, or a dash where all rows are loaded.
@@ -28,7 +28,7 @@ fn loaded(word: &[u8]) -> Option<Option<usize>>
     if is(word, b"-") {
         return Some(None);
     }
-    Some(Some(slot(word)?))
+    slot(word).map(Some)
 }
 
 // A place of a size, by its letter.
@@ -36,9 +36,9 @@ fn sized(letter: &[u8], size: &[u8]) -> Option<Place>
     ensures { result ≡ sized_of letter.now size.now }
 {
     if is(letter, b"r") {
-        Some(Place::Runs(number(size)?))
+        number(size).map(Place::Runs)
     } else if is(letter, b"m") {
-        Some(Place::Mask(number(size)?))
+        number(size).map(Place::Mask)
     } else {
         None
     }
@@ -60,10 +60,10 @@ fn arg(kind: Kind, words: &mut Words<'_>) -> Option<Arg>
 {
     let word = words.next()?;
     match kind {
-        Kind::Slot => Some(Arg::Slot(slot(word)?)),
-        Kind::Number => Some(Arg::Number(number(word)?)),
-        Kind::Place => Some(Arg::Place(place(word, words)?)),
-        Kind::Loaded => Some(Arg::Loaded(loaded(word)?)),
+        Kind::Slot => slot(word).map(Arg::Slot),
+        Kind::Number => number(word).map(Arg::Number),
+        Kind::Place => place(word, words).map(Arg::Place),
+        Kind::Loaded => loaded(word).map(Arg::Loaded),
     }
 }
 
@@ -72,15 +72,12 @@ pub(crate) fn head(
     heap: Global,
     kinds: &[Kind],
     words: &mut Words<'_>,
-) -> Result<Option<Vec<Arg>>, AllocError>
-    ensures { IfOk result (λ o. before (left words.new) (option_map vec_items o) ≡ head_of kinds.now (left words.old)) }
+) -> Result<Vec<Arg>, WordError>
+    ensures { Reads (λ args. (vec_items args, left words.new)) result (head_of kinds.now (left words.old)) }
 {
     let mut args = Vec::new(heap);
     for kind in kinds {
-        let Some(arg) = arg(*kind, words) else {
-            return Ok(None);
-        };
-        args.push(arg)?;
+        args.push(arg(*kind, words).ok_or(WordError::Malformed)?)?;
     }
-    Ok(Some(args))
+    Ok(args)
 }
