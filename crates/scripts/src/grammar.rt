@@ -7,7 +7,7 @@ use crate::command::Verb;
 use tokens::word::is;
 
 // What an argument has to be.
-#[derive(Clone, Copy, PartialEq, Eq, Debug)]
+#[derive(Clone, Copy)]
 pub(crate) enum Kind {
     Slot,
     Number,
@@ -16,7 +16,7 @@ pub(crate) enum Kind {
 }
 
 // What stands behind the arguments.
-#[derive(Clone, Copy, PartialEq, Eq, Debug)]
+#[derive(Clone, Copy)]
 pub(crate) enum Ending {
     Nothing,
     Bytes,

@@ -35,12 +35,10 @@ fn loaded(word: &[u8]) -> Option<Option<usize>>
 fn sized(letter: &[u8], size: &[u8]) -> Option<Place>
     ensures { result ≡ sized_of letter.now size.now }
 {
-    if is(letter, b"r") {
-        number(size).map(Place::Runs)
-    } else if is(letter, b"m") {
-        number(size).map(Place::Mask)
-    } else {
-        None
+    match letter {
+        b"r" => number(size).map(Place::Runs),
+        b"m" => number(size).map(Place::Mask),
+        _ => None,
     }
 }
 

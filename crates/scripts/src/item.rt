@@ -1,8 +1,8 @@
 // Items that are listed behind the arguments: runs, ranges and pages.
 ghost use Rattle.std.specs.Prelude.{◌≡◌, ◌≤◌, List, [], ◌∷◌, length, Some, Option, refl};
-ghost use Rattle.tokens.specs.Words.{Word, added};
+ghost use Rattle.tokens.specs.Words.{Word, added, signed_of};
 ghost use Rattle.tokens.specs.Left.{left};
-ghost use Rattle.scripts.specs.Tails.{run_of, runs_of, range_of, ranges_of, page_of, pages_of};
+ghost use Rattle.scripts.specs.Tails.{run_of, runs_of, range_of, ranges_of, fitting, page_of, pages_of};
 
 use pages::page::PageLocation;
 use rows::range::RowRange;
@@ -47,13 +47,20 @@ fn range(start: &[u8], end: &[u8]) -> Option<RowRange>
     })
 }
 
+// A signed number of 64 bits.
+fn long(word: &[u8]) -> Option<i64>
+    ensures { result ≡ fitting 63 (signed_of word.now) }
+{
+    i64::try_from(signed(word)?).ok()
+}
+
 fn page(offset: &[u8], size: &[u8], first: &[u8]) -> Option<PageLocation>
     ensures { result ≡ page_of offset.now size.now first.now }
 {
     Some(PageLocation {
-        offset: i64::try_from(signed(offset)?).ok()?,
+        offset: long(offset)?,
         compressed_page_size: i32::try_from(signed(size)?).ok()?,
-        first_row_index: i64::try_from(signed(first)?).ok()?,
+        first_row_index: long(first)?,
     })
 }
 
