@@ -1,6 +1,6 @@
 // The arguments of a command, by their kinds.
 ghost use Rattle.std.specs.Prelude.{◌≡◌, vec_items};
-ghost use Rattle.scripts.specs.Args.{before, slot_of, loaded_of, sized_of, place_of, arg_of, head_of};
+ghost use Rattle.scripts.specs.Args.{before, slot_of, loaded_of, place_of, arg_of, head_of};
 ghost use Rattle.tokens.specs.Left.{left};
 ghost use Rattle.tokens.specs.Reads.{Reads};
 
@@ -9,7 +9,6 @@ use crate::grammar::Kind;
 use std::alloc::Global;
 use tokens::error::WordError;
 use tokens::number::number;
-use tokens::word::is;
 use tokens::words::Words;
 
 // How many slots there are.
@@ -25,20 +24,9 @@ fn slot(word: &[u8]) -> Option<usize>
 fn loaded(word: &[u8]) -> Option<Option<usize>>
     ensures { result ≡ loaded_of word.now }
 {
-    if is(word, b"-") {
-        return Some(None);
-    }
-    slot(word).map(Some)
-}
-
-// A place of a size, by its letter.
-fn sized(letter: &[u8], size: &[u8]) -> Option<Place>
-    ensures { result ≡ sized_of letter.now size.now }
-{
-    match letter {
-        b"r" => number(size).map(Place::Runs),
-        b"m" => number(size).map(Place::Mask),
-        _ => None,
+    match word {
+        b"-" => Some(None),
+        _ => slot(word).map(Some),
     }
 }
 
@@ -46,10 +34,12 @@ fn sized(letter: &[u8], size: &[u8]) -> Option<Place>
 fn place(word: &[u8], words: &mut Words<'_>) -> Option<Place>
     ensures { before (left words.new) result ≡ place_of word.now (left words.old) }
 {
-    if is(word, b"-") {
-        return Some(Place::Natural);
+    match word {
+        b"-" => Some(Place::Natural),
+        b"r" => number(words.next()?).map(Place::Runs),
+        b"m" => number(words.next()?).map(Place::Mask),
+        _ => None,
     }
-    sized(word, words.next()?)
 }
 
 // The next argument.
