@@ -7,3 +7,5 @@ mod head;
 mod item;
 pub mod parse;
 mod tail;
+
+pub use tokens::error::WordError;

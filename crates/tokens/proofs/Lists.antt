@@ -1,5 +1,5 @@
 -- Lists that are read item by item. Assumes nothing.
-use Rattle.std.proofs.Common.{◌≡◌, List, [], ◌∷◌, ◌++◌, Some, None, Option, sym, refl, ap, ◌∙◌, append_assoc, append-nil}
+use Rattle.std.proofs.Common.{◌≡◌, List, [], ◌∷◌, ◌++◌, Some, None, Option, sym, refl, ap, ◌∙◌, append_assoc}
 use Rattle.tokens.specs.Words.{added}
 
 -- what was read before, and then the rest
@@ -7,7 +7,7 @@ abbrev pub prepended : {X : Type 0} → List X → Option (List X) → Option (L
 prepended xs None = None
 prepended xs (Some ys) = Some (xs ++ ys)
 
--- one turn, and the ends, of a loop that reads items: o is what the words left say, and all is what they said at first
+-- one turn of a loop that reads items: o is what the words left say, and all is what they said at first
 module _ {X : Type 0} (xs : List X) (o all : Option (List X)) (inv : prepended xs o ≡ all) where
   pub one_more : (ys : List X) (x : X) (rest : Option (List X)) → ys ≡ xs ++ x ∷ [] → o ≡ added (Some x) rest → prepended ys rest ≡ all
   one_more ys x rest pushed e = ap (λ l. prepended l rest) pushed ∙ joined rest ∙ ap (prepended xs) (sym e) ∙ inv
@@ -15,12 +15,6 @@ module _ {X : Type 0} (xs : List X) (o all : Option (List X)) (inv : prepended x
       joined : (r : Option (List X)) → prepended (xs ++ x ∷ []) r ≡ prepended xs (added (Some x) r)
       joined None = refl
       joined (Some ys) = ap Some (append_assoc xs (x ∷ []) ys)
-
-  pub refused : o ≡ None → None ≡ all
-  refused e = sym (ap (prepended xs) e) ∙ inv
-
-  pub finished : o ≡ Some [] → Some xs ≡ all
-  finished e = sym (ap (prepended xs) e ∙ ap Some (append-nil xs)) ∙ inv
 
 pub none_yet : {X : Type 0} (o : Option (List X)) → prepended [] o ≡ o
 none_yet None = refl

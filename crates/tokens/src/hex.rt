@@ -4,7 +4,6 @@ ghost use Rattle.tokens.specs.Words.{hex_digit, hex_byte, hex_bytes, bytes_of};
 ghost use Rattle.tokens.specs.Reads.{Reads};
 
 use crate::error::WordError;
-use crate::word::is;
 use std::alloc::Global;
 
 // The value of a digit; the letters are in lower case.
@@ -44,11 +43,9 @@ fn pairs(heap: Global, word: &[u8]) -> Result<Vec<u8>, WordError>
 pub fn bytes(heap: Global, word: &[u8]) -> Result<Vec<u8>, WordError>
     ensures { Reads vec_items result (bytes_of word.now) }
 {
-    if is(word, b"-") {
-        Ok(Vec::new(heap))
-    } else if word.is_empty() {
-        Err(WordError::Malformed)
-    } else {
-        pairs(heap, word)
+    match word {
+        b"-" => Ok(Vec::new(heap)),
+        [] => Err(WordError::Malformed),
+        _ => pairs(heap, word),
     }
 }
