@@ -1,6 +1,5 @@
 -- The shots at a stretch of rows. Assumes nothing.
-use Rattle.std.proofs.Common.{◌≡◌, ℕ, zero, suc, ◌+◌, ◌-◌, min, Bool, true, false, ◌&&◌, List, [], ◌∷◌, ◌++◌, map, length, take, drop, replicate, sym, refl, ap, ◌∙◌, append_assoc, arith, length-drop}
-use Rattle.std.proofs.lemmas.List.{drop-drop}
+use Rattle.std.proofs.Common.{◌≡◌, ℕ, zero, suc, ◌-◌, min, Bool, true, false, ◌&&◌, List, [], ◌∷◌, ◌++◌, map, length, take, drop, replicate, sym, refl, ap, ◌∙◌, append_assoc, arith}
 use Rattle.rows.specs.Rules.{and_then}
 use Rattle.survey.specs.declared.shot.Shot.{Shot}
 use Rattle.survey.specs.declared.filter.Filter.{Filter}
@@ -26,18 +25,12 @@ selected (suc n) m xs (s ∷ ss) e =
     ap (λ l. s ∷ l) (selected n (m - 1) xs ss (omega arith)) ∙ ap (λ k. take k (s ∷ ss) ++ picked xs (drop k (s ∷ ss))) z
 
 -- one turn: what was found before and what is still to find make the whole
-module _ (whole found : List Shot) (rows xs : List Bool) (n m at : ℕ) (shots : List Shot) (inv : found ++ picked rows (drop at shots) ≡ whole) (long : m ≡ min n (length shots - at)) where
-  left : m ≡ min n (length (drop at shots))
-  left = omega (arith, length-drop at shots)
+module _ (whole found : List Shot) (rows xs : List Bool) (n m : ℕ) (ahead : List Shot) (inv : found ++ picked rows ahead ≡ whole) (long : m ≡ min n (length ahead)) where
+  pub pass-run : rows ≡ replicate n false ++ xs → found ++ picked xs (drop m ahead) ≡ whole
+  pass-run e = ap (λ l. found ++ l) (sym (ap (λ r. picked r ahead) e ∙ skipped n m xs ahead long)) ∙ inv
 
-  pub pass-run : rows ≡ replicate n false ++ xs → found ++ picked xs (drop (at + m) shots) ≡ whole
-  pass-run e =
-      ap (λ l. found ++ l) (sym (ap (λ r. picked r (drop at shots)) e ∙ skipped n m xs (drop at shots) left ∙ ap (picked xs) (drop-drop m at shots))) ∙ inv
-
-  pub take-run : rows ≡ replicate n true ++ xs → (found ++ take m (drop at shots)) ++ picked xs (drop (at + m) shots) ≡ whole
-  take-run e =
-      append_assoc found (take m (drop at shots)) (picked xs (drop (at + m) shots))
-      ∙ ap (λ l. found ++ l) (sym (ap (λ r. picked r (drop at shots)) e ∙ selected n m xs (drop at shots) left ∙ ap (λ k. take m (drop at shots) ++ picked xs k) (drop-drop m at shots))) ∙ inv
+  pub take-run : rows ≡ replicate n true ++ xs → (found ++ take m ahead) ++ picked xs (drop m ahead) ≡ whole
+  take-run e = append_assoc found (take m ahead) (picked xs (drop m ahead)) ∙ ap (λ l. found ++ l) (sym (ap (λ r. picked r ahead) e ∙ selected n m xs ahead long)) ∙ inv
 
 pub none_left : (rows : List Bool) (shots : List Shot) → rows ≡ [] → picked rows shots ≡ []
 none_left rows shots e = ap (λ r. picked r shots) e

@@ -1,9 +1,10 @@
 -- Filters, and the shots that rows select.
-use Rattle.std.specs.Prelude.{Bool, true, false, ◌&&◌, List, [], ◌∷◌, ℤ, pos, int_le}
+use Rattle.std.specs.Prelude.{Bool, true, false, ◌&&◌, List, [], ◌∷◌, ℕ, ℤ, pos, int_le, ◌≡◌, ◌≢◌, Result, MatchResult, codes}
 use Rattle.survey.specs.declared.shot.Shot.{Shot}
 use Rattle.survey.specs.declared.filter.Field.{Field}
 use Rattle.survey.specs.declared.filter.Field.TheVariants.{From, To, Length, Azimuth, Inclination}
 use Rattle.survey.specs.declared.filter.Filter.{Filter}
+use Rattle.survey.specs.declared.filter.NoField.{NoField}
 
 -- the value of a shot that a filter looks at
 abbrev pub value_in : Field → Shot → ℤ
@@ -12,6 +13,18 @@ value_in To s = pos s.to
 value_in Length s = pos s.length
 value_in Azimuth s = pos s.azimuth
 value_in Inclination s = s.inclination
+
+-- the word that names a field
+abbrev pub name_of : Field → List ℕ
+name_of From = codes "from"
+name_of To = codes "to"
+name_of Length = codes "length"
+name_of Azimuth = codes "azimuth"
+name_of Inclination = codes "inclination"
+
+-- the field that a word names, or that it names none
+abbrev pub IsFieldOf : List ℕ → Result Field NoField → Type 0
+IsFieldOf word r = MatchResult r (λ f. word ≡ name_of f) (λ _. (f : Field) → word ≢ name_of f)
 
 -- a shot passes when that value is in the range, both ends included
 abbrev pub passes : Filter → Shot → Bool

@@ -1,8 +1,9 @@
 // A filter: the shots with one value in a range.
 ghost use Rattle.std.specs.Prelude.{◌≡◌};
-ghost use Rattle.survey.specs.Filters.{value_in, passes};
+ghost use Rattle.survey.specs.Filters.{value_in, passes, IsFieldOf};
 
 use crate::shot::Shot;
+use std::str::FromStr;
 
 #[derive(Clone, Copy, PartialEq, Eq, Debug)]
 pub enum Field {
@@ -12,6 +13,10 @@ pub enum Field {
     Azimuth,
     Inclination,
 }
+
+// What a word is that names no field.
+#[derive(Clone, Copy, PartialEq, Eq, Debug)]
+pub struct NoField;
 
 // The least and the largest value that pass, both included.
 #[derive(Clone, Copy, PartialEq, Eq, Debug)]
@@ -36,12 +41,28 @@ impl Field {
     }
 }
 
+impl FromStr for Field {
+    type Err = NoField;
+
+    ghost from_str_gives = { IsFieldOf };
+
+    fn from_str(word: &str) -> Result<Field, NoField> {
+        match word {
+            "from" => Ok(Field::From),
+            "to" => Ok(Field::To),
+            "length" => Ok(Field::Length),
+            "azimuth" => Ok(Field::Azimuth),
+            "inclination" => Ok(Field::Inclination),
+            _ => Err(NoField),
+        }
+    }
+}
+
 impl Filter {
     // Whether a shot passes.
     pub fn keeps(self, shot: Shot) -> bool
         ensures { result ≡ passes self shot }
     {
-        let value = self.field.of(shot);
-        self.least <= value && value <= self.most
+        (self.least..=self.most).contains(&self.field.of(shot))
     }
 }

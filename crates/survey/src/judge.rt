@@ -12,12 +12,11 @@ use std::alloc::{AllocError, Global};
 pub fn judge(heap: Global, filter: Filter, shots: &[Shot]) -> Result<Vec<RowSelector>, AllocError>
     ensures { IfOk result (λ v. run_rows v.items ≡ map (passes filter) shots.now) }
 {
-    let mut runs = Vec::new(heap);
-    for shot in shots {
-        runs.push(RowSelector {
+    shots
+        .iter()
+        .map(|shot| RowSelector {
             row_count: 1,
             skip: !filter.keeps(*shot),
-        })?;
-    }
-    Ok(runs)
+        })
+        .collect(heap)
 }

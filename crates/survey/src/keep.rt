@@ -11,14 +11,14 @@ pub fn kept<S: RunSource>(heap: Global, source: S, shots: &[Shot]) -> Result<Vec
     ensures { IfOk result (λ v. v.items ≡ picked (S.RunSource.rows source) shots.now) }
 {
     let mut rest = source;
+    let mut ahead = shots;
     let mut found = Vec::new(heap);
-    let mut at: usize = 0;
     while let Some(run) = rest.next_run() {
-        let end = at + run.row_count.min(shots.len() - at);
+        let (these, after) = ahead.split_at(run.row_count.min(ahead.len()));
         if !run.skip {
-            found.extend_from_slice(&shots[at..end])?;
+            found.extend_from_slice(these)?;
         }
-        at = end;
+        ahead = after;
     }
     Ok(found)
 }
