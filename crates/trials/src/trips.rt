@@ -1,5 +1,5 @@
 // Trip files with a fault, each told with its line.
-use std::alloc::Global;
+use std::alloc::{AllocError, Global};
 use tripfile::fault::{TripFault, Wrong};
 use tripfile::read::read_trip;
 
@@ -8,7 +8,7 @@ fn fault_of(heap: Global, text: &str) -> (usize, Wrong) {
     match read_trip(heap, text) {
         Ok(_) => (0, Wrong::Word),
         Err(TripFault::Line(line, wrong)) => (line, wrong),
-        Err(_) => (0, Wrong::NoMemory),
+        Err(_) => (0, Wrong::NoMemory(AllocError)),
     }
 }
 

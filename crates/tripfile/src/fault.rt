@@ -2,20 +2,31 @@
 use refusals::fault::SelectionFault;
 use std::alloc::{AllocError, AllocFailed};
 use std::fmt;
+use thiserror::Error;
 
 // What a line of the file has wrong.
-#[derive(Clone, Copy, PartialEq, Eq, Debug)]
+#[derive(Clone, Copy, PartialEq, Eq, Debug, Error)]
 pub enum Wrong {
+    #[error("not a line that a trip has")]
     Word,
+    #[error("a value is missing")]
     TooFew,
+    #[error("a value too many")]
     TooMany,
+    #[error("a value is not a whole number")]
     Number,
+    #[error("a value is out of its range")]
     Range,
+    #[error("a page with no column before it")]
     NoColumn,
+    #[error("a third filter")]
     ThirdFilter,
+    #[error("a name is missing")]
     NoName,
+    #[error("the trip ends with fewer than two filters")]
     FewFilters,
-    NoMemory,
+    #[error("no memory")]
+    NoMemory(#[from(alloc)] AllocError),
 }
 
 // A fault of a whole trip: in a line, in the page list of a column, or for want of memory.
@@ -25,18 +36,6 @@ pub enum TripFault {
     Pages(usize, SelectionFault),
     Refused(SelectionFault),
     NoMemory,
-}
-
-impl From<AllocError> for Wrong {
-    fn from(_e: AllocError) -> Wrong {
-        Wrong::NoMemory
-    }
-}
-
-impl<T: Drop> From<AllocFailed<T>> for Wrong {
-    fn from(_e: AllocFailed<T>) -> Wrong {
-        Wrong::NoMemory
-    }
 }
 
 impl From<AllocError> for TripFault {
@@ -54,23 +53,6 @@ impl<T: Drop> From<AllocFailed<T>> for TripFault {
 impl From<SelectionFault> for TripFault {
     fn from(e: SelectionFault) -> TripFault {
         TripFault::Refused(e)
-    }
-}
-
-impl fmt::Display for Wrong {
-    fn fmt<W: fmt::Write>(&self, f: &mut fmt::Formatter<W>) -> fmt::Result {
-        f.write_str(match self {
-            Wrong::Word => "not a line that a trip has",
-            Wrong::TooFew => "a value is missing",
-            Wrong::TooMany => "a value too many",
-            Wrong::Number => "a value is not a whole number",
-            Wrong::Range => "a value is out of its range",
-            Wrong::NoColumn => "a page with no column before it",
-            Wrong::ThirdFilter => "a third filter",
-            Wrong::NoName => "a name is missing",
-            Wrong::FewFilters => "the trip ends with fewer than two filters",
-            Wrong::NoMemory => "no memory",
-        })
     }
 }
 

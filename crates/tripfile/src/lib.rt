@@ -2,5 +2,6 @@
 #![tactic(auto)]
 
 pub mod fault;
+mod fields;
 pub mod read;
 pub mod trip;
