@@ -6,7 +6,8 @@ use Rattle.refusals.specs.declared.fault.SelectionFault.{SelectionFault}
 use Rattle.pages.specs.declared.page.PageLocation.{PageLocation}
 use Rattle.pages.specs.declared.span.PageSpan.{PageSpan}
 use Rattle.pages.specs.Items.{Stands}
-use Rattle.pages.specs.Pages.{first_row, next_of, any_row, own, later, span, wanted_pages, accepted}
+use Rattle.rows.specs.Rows.{any_row}
+use Rattle.pages.specs.Pages.{first_row, next_of, own, later, span, wanted_pages, accepted}
 use Rattle.pages.specs.Fetch.{page_at, span_at, Holds, Selected, In, Ascending, Covers, FewestPages}
 use Rattle.pages.proofs.PageLaws.{Rises, first_of, accepted-parts}
 

@@ -1,3 +1,2 @@
-pub mod PassLaws
 pub mod PageLaws
 pub mod FetchLaws

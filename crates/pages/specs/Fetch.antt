@@ -1,10 +1,9 @@
 -- What is fetched, in terms of the rows that pages hold: no page too few, and none too many.
 use Rattle.std.specs.Prelude.{◌≡◌, ℕ, suc, ◌<◌, ◌≤◌, Bool, true, false, ◌⊎◌, List, [], ◌∷◌, map, length, drop, pos, slice_index_or}
 use Rattle.pages.specs.declared.page.PageLocation.{PageLocation}
-use Rattle.pages.specs.declared.page.ByteRange.{ByteRange}
-use Rattle.rows.specs.declared.range.RowRange.{RowRange}
+use Rattle.rows.specs.Ranges.{RowRange}
 use Rattle.pages.specs.declared.span.PageSpan.{PageSpan}
-use Rattle.pages.specs.Pages.{first_row, byte_range, next_of, span, span_rows}
+use Rattle.pages.specs.Pages.{ByteRange, first_row, byte_range, next_of, span, span_rows}
 
 -- what is read past the end of a list
 abbrev pub no_page : PageLocation

@@ -2,9 +2,14 @@
 use Rattle.std.specs.Prelude.{◌≡◌, ℕ, suc, ◌+◌, ◌-◌, Bool, false, cond, ◌&&◌, ◌||◌, List, [], ◌∷◌, map, length, take, drop, pos, Some, None, Option, ◌==◌, int_le, int_lt, nat_lt, unsigned_abs}
 use Rattle.rows.specs.Rows.{row_limit}
 use Rattle.pages.specs.declared.page.PageLocation.{PageLocation}
-use Rattle.pages.specs.declared.page.ByteRange.{ByteRange}
-use Rattle.rows.specs.declared.range.RowRange.{RowRange}
+use Rattle.rows.specs.declared.range.Span.{Span}
+use Rattle.rows.specs.Ranges.{RowRange}
+use Rattle.rows.specs.Rows.{any_row}
 use Rattle.pages.specs.declared.span.PageSpan.{PageSpan}
+
+-- bytes of a column, from the start on, before the end
+abbrev pub ByteRange : Type 0
+ByteRange = Span ℕ
 
 -- the numbers of a page, none of which is negative where it is fine
 abbrev pub first_row : PageLocation → ℕ
@@ -46,11 +51,6 @@ accepted ps = nat_lt 0 (length ps) && in_order None ps == length ps
 abbrev pub next_of : List PageLocation → Option PageLocation
 next_of [] = None
 next_of (p ∷ ps) = Some p
-
--- a row is selected
-abbrev pub any_row : List Bool → Bool
-any_row [] = false
-any_row (x ∷ xs) = x || any_row xs
 
 -- of the rows from a page's first row on, those that it holds
 abbrev pub own : PageLocation → Option PageLocation → List Bool → List Bool

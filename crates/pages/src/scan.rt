@@ -19,9 +19,9 @@ pub fn scan_ranges<S: RunSource>(
     pages: &[PageLocation],
     place: &mut [ByteRange],
 ) -> Result<usize, SelectionFault>
-    ensures verdict { verdict result ≡ scan_verdict (length place.old) pages.now (S.RunSource.rows source) }
-    ensures written { Stands (scanned pages.now (S.RunSource.rows source)) result place.old place.new }
-    ensures fewest { IfOk result (λ n. FewestPages pages.now (S.RunSource.rows source) (bytes_at pages.now) (take n place.new)) }
+    ensures verdict { verdict result ≡ scan_verdict (length place.old) pages.now (S.rows source) }
+    ensures written { Stands (scanned pages.now (S.rows source)) result place.old place.new }
+    ensures fewest { IfOk result (λ n. FewestPages pages.now (S.rows source) (bytes_at pages.now) (take n place.new)) }
 {
     let list = PageList::new(pages)?;
     list.store(source, |page| page.bytes(), place)
@@ -34,9 +34,9 @@ pub fn row_ranges_for_selected_pages<S: CountedSource>(
     total: usize,
     place: &mut [RowRange],
 ) -> Result<usize, SelectionFault>
-    ensures verdict { verdict result ≡ rows_verdict (length place.old) total pages.now (S.RunSource.rows source) }
-    ensures written { Stands (page_rows total pages.now (S.RunSource.rows source)) result place.old place.new }
-    ensures fewest { IfOk result (λ n. FewestPages pages.now (S.RunSource.rows source) (rows_at total pages.now) (take n place.new)) }
+    ensures verdict { verdict result ≡ rows_verdict (length place.old) total pages.now (S.rows source) }
+    ensures written { Stands (page_rows total pages.now (S.rows source)) result place.old place.new }
+    ensures fewest { IfOk result (λ n. FewestPages pages.now (S.rows source) (rows_at total pages.now) (take n place.new)) }
 {
     if total > ROW_LIMIT {
         return Err(SelectionFault::RowLimit(0));

@@ -14,8 +14,8 @@ use runs::source::RunSource;
 impl<'a> PageList<'a> {
     // Refuses a place of too few slots for the pages that hold a selected row. These are counted only where there are more pages than slots.
     fn check_room<S: RunSource>(&self, source: S, slots: usize) -> Result<(), SelectionFault>
-        ensures few { IfOk result (λ _. length (wanted_pages self.now.pages.now (S.RunSource.rows source)) ≤ slots) }
-        ensures many { IfErr result (λ e. (slots < length (wanted_pages self.now.pages.now (S.RunSource.rows source))) × (e ≡ PlaceTooSmall (length (wanted_pages self.now.pages.now (S.RunSource.rows source))))) }
+        ensures few { IfOk result (λ _. length (wanted_pages self.now.pages.now (S.rows source)) ≤ slots) }
+        ensures many { IfErr result (λ e. (slots < length (wanted_pages self.now.pages.now (S.rows source))) × (e ≡ PlaceTooSmall (length (wanted_pages self.now.pages.now (S.rows source))))) }
     {
         if self.pages.len() <= slots {
             return Ok(());
@@ -35,15 +35,15 @@ impl<'a> PageList<'a> {
         place: &mut [T],
     ) -> Result<usize, SelectionFault>
         requires { F.IsAlwaysCallable tell }
-        ensures verdict { (h : PageSpan → T) → Tells (F.post tell) h → verdict result ≡ stored (length place.old) (map h (wanted_pages self.now.pages.now (S.RunSource.rows source))) }
-        ensures written { (h : PageSpan → T) → Tells (F.post tell) h → Stands (map h (wanted_pages self.now.pages.now (S.RunSource.rows source))) result place.old place.new }
+        ensures verdict { (h : PageSpan → T) → Tells (F.post tell) h → verdict result ≡ stored (length place.old) (map h (wanted_pages self.now.pages.now (S.rows source))) }
+        ensures written { (h : PageSpan → T) → Tells (F.post tell) h → Stands (map h (wanted_pages self.now.pages.now (S.rows source))) result place.old place.new }
     {
         self.check_room(source, place.len())?;
         let mut out = Place::new(place);
         for page in self.walk(source) {
-            if !out.push(tell(page)) {
+            let Ok(()) = out.push(tell(page)) else {
                 unreachable()
-            }
+            };
         }
         Ok(out.items().len())
     }

@@ -20,7 +20,7 @@ pub(crate) struct Walk<'a, S> {
 impl<'a> PageList<'a> {
     // A walk from the first page and the first row on.
     pub(crate) fn walk<S: RunSource>(&self, source: S) -> Walk<'a, S>
-        ensures { pages_left S.RunSource.rows result ≡ wanted_pages self.now.pages.now (S.RunSource.rows source) }
+        ensures { pages_left S.rows result ≡ wanted_pages self.now.pages.now (S.rows source) }
     {
         Walk {
             pages: self.pages,
@@ -32,7 +32,7 @@ impl<'a> PageList<'a> {
 impl<'a, S: RunSource> Iterator for Walk<'a, S> {
     type Item = PageSpan;
 
-    ghost next_gives = { YieldsFirst (pages_left S.RunSource.rows) };
+    ghost next_gives = { YieldsFirst (pages_left S.rows) };
 
     ghost remaining = { λ s. at_most (length s.pages.now) };
 

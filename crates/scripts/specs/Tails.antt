@@ -1,7 +1,7 @@
 -- What words say behind the arguments of a command.
 use Rattle.std.specs.Prelude.{ℕ, ◌-◌, ◌^◌, true, false, cond, ◌&&◌, List, [], ◌∷◌, ℤ, pos, neg_ℤ, Some, None, Option, int_le}
 use Rattle.std.specs.Option.{option_map}
-use Rattle.rows.specs.declared.range.RowRange.{RowRange}
+use Rattle.rows.specs.Ranges.{RowRange}
 use Rattle.rows.specs.declared.selector.RowSelector.{RowSelector}
 use Rattle.pages.specs.declared.page.PageLocation.{PageLocation}
 use Rattle.tokens.specs.Words.{Word, added, behind, number_of, signed_of, bytes_of}

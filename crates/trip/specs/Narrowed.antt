@@ -4,7 +4,7 @@ use Rattle.rows.specs.Rows.{selected_count, run_rows}
 use Rattle.rows.specs.Rules.{strategy}
 use Rattle.survey.specs.Filters.{passes, passes_both}
 use Rattle.std.specs.declared.alloc.Global.{Global}
-use Rattle.pages.specs.declared.page.ByteRange.{ByteRange}
+use Rattle.pages.specs.Pages.{ByteRange}
 use Rattle.pages.specs.Pages.{scanned}
 use Rattle.tripfile.specs.declared.trip.Column.{Column}
 use Rattle.tripfile.specs.declared.trip.Trip.{Trip}

@@ -10,7 +10,7 @@ use Rattle.rows.specs.Chunks.{next_chunk, chunk_end}
 use Rattle.bits.specs.Bits.{mask_rows}
 use Rattle.algebra.specs.Verdicts.{narrows}
 use Rattle.pages.specs.declared.page.PageLocation.{PageLocation}
-use Rattle.pages.specs.declared.page.ByteRange.{ByteRange}
+use Rattle.pages.specs.Pages.{ByteRange}
 use Rattle.pages.specs.Pages.{scanned}
 use Rattle.pages.specs.Verdicts.{scan_verdict}
 

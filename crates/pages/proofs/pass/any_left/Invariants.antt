@@ -1,6 +1,6 @@
 use Rattle.std.proofs.Common.{◌≡◌, length}
 use Rattle.runs.specs.HeldRows.{held_rows}
-use Rattle.pages.specs.Pages.{any_row}
+use Rattle.rows.specs.Rows.{any_row}
 use Rattle.pages.proofs.pass.any_left.Given as goal
 
 abbrev pub invariant-loop-run : goal.invariant-loop-run

@@ -1,6 +1,6 @@
 use Rattle.std.proofs.Common.{◌≡◌, ℕ, ◌≤◌, List, ◌++◌, length, take, ap, ◌∙◌, arith, take_all}
 use lib.Seq.{take-append-le}
-use Rattle.pages.specs.declared.page.ByteRange.{ByteRange}
+use Rattle.pages.specs.Pages.{ByteRange}
 use Rattle.pages.specs.Pages.{scanned}
 use Rattle.trip.proofs.narrow.column_ranges.Goals as goal
 
