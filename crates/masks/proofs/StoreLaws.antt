@@ -1,54 +1,42 @@
 -- Laws of a word's bytes stored after the rows of a mask that ends at a byte. Assumes nothing.
-use Rattle.std.proofs.Common.{◌≡◌, ℕ, ◌+◌, ◌-◌, ◌*◌, ◌/◌, ◌%◌, ◌^◌, ◌<◌, ◌≤◌, Bool, true, false, ◌⊎◌, List, [], ◌∷◌, ◌++◌, length, get_or, drop, set, replicate, sym, refl, ap, ◌∙◌, subst, ap₂, inl, inr, arith, length-set, shr_lt}
-use Rattle.std.proofs.lemmas.List.{get_or-set_same, get_or-set_other, drop-set-lt}
-use Rattle.std.proofs.lemmas.Bool.{cases_lt}
-use Rattle.runs.specs.Shown.{same-later}
+use Rattle.std.proofs.Common.{◌≡◌, ℕ, zero, suc, ◌+◌, ◌-◌, ◌*◌, ◌/◌, ◌%◌, ◌^◌, ◌<◌, ◌≤◌, Bool, true, false, List, [], ◌∷◌, ◌++◌, length, get_or, take, drop, replicate, sym, refl, ap, ◌∙◌, subst, ap₂, arith, rules, length-drop, shr_lt}
+use Rattle.std.proofs.lemmas.List.{length-take-le, get_or-take, places}
+use Rattle.std.proofs.lemmas.Slice.{drop-put_mid}
+use borrow.Rule.Slice.PartMut.{put_mid, same_len_mid}
 use Rattle.bits.specs.Bits.{digit, bit_at, row_at, mask_rows, word_rows}
 use Rattle.bits.proofs.Digits.{digit-shr, digit_low, digit_ones, digit-past, bit-same, bit-set, bit-clear}
 use Rattle.bits.proofs.RowLaws.{rows_ext, rows_split, rows_alike}
 use Rattle.masks.specs.Spares.{bytes_of, Spare}
 use Rattle.masks.specs.Stores.{Stored}
 
--- nothing stored yet, and one byte more
-pub stored-none : (xs : List ℕ) (i w : ℕ) → Stored xs i w 0 xs
-stored-none xs i w = record { long = refl; old = λ j h. refl; new = λ j h. absurd (omega arith); rest = refl }
+-- byte j of a word whose bytes are listed from the lowest on
+byte-of : (w j : ℕ) → j < 8 → get_or ((w % 256) ∷ (w / 256 % 256) ∷ (w / 65536 % 256) ∷ (w / 16777216 % 256) ∷ (w / 4294967296 % 256) ∷ (w / 1099511627776 % 256) ∷ (w / 281474976710656 % 256) ∷ (w / 72057594037927936 % 256) ∷ []) j 0 ≡ w / 2 ^ (8 * j) % 2 ^ 8
+byte-of w zero h = omega arith
+byte-of w (suc zero) h = refl
+byte-of w (suc (suc zero)) h = refl
+byte-of w (suc (suc (suc zero))) h = refl
+byte-of w (suc (suc (suc (suc zero)))) h = refl
+byte-of w (suc (suc (suc (suc (suc zero))))) h = refl
+byte-of w (suc (suc (suc (suc (suc (suc zero)))))) h = refl
+byte-of w (suc (suc (suc (suc (suc (suc (suc zero))))))) h = refl
+byte-of w (suc (suc (suc (suc (suc (suc (suc (suc j)))))))) h = absurd (omega arith)
 
-pub stored_more : (xs ys : List ℕ) (i w n v : ℕ) → i + n < length xs → v ≡ w / 2 ^ (8 * n) % 2 ^ 8 → Stored xs i w n ys → Stored xs i w (n + 1) (set ys (i + n) v)
-stored_more xs ys i w n v h e s = record {
-  long = length-set ys (i + n) v ∙ s.long;
-  old = λ j l. get_or-set_other ys (i + n) j v 0 (λ d. omega arith) ∙ s.old j l;
-  new = λ j l. at j l (cases_lt j n);
-  rest = drop-set-lt (i + (n + 1)) ys (i + n) v (omega arith) ∙ same-later ys xs (i + n) (i + (n + 1)) (omega arith) s.rest;
-}
-  where
-    at : (j : ℕ) → j < n + 1 → (j < n) ⊎ (n ≤ j) → get_or (set ys (i + n) v) (i + j) 0 ≡ w / 2 ^ (8 * j) % 2 ^ 8
-    at j l (inl k) = get_or-set_other ys (i + n) (i + j) v 0 (λ d. omega arith) ∙ s.new j k
-    at j l (inr k) =
-        let d : j ≡ n = omega arith in
-        ap (λ x. get_or (set ys (i + n) v) (i + x) 0) d ∙ get_or-set_same ys (i + n) v 0 (omega (arith, s.long)) ∙ e ∙ ap (λ x. w / 2 ^ (8 * x) % 2 ^ 8) (sym d)
+get_or_mid : (xs ys : List ℕ) (i k j : ℕ) → i ≤ length xs → j < length ys → get_or (put_mid i k xs ys) (i + j) 0 ≡ get_or ys j 0
+get_or_mid xs ys i k j h l = search (rules, places)
 
--- eight stores from byte i on, the first at byte k
-abbrev eight : List ℕ → ℕ → ℕ → List ℕ → List ℕ
-eight xs i k bs =
-    let b = λ (j : ℕ). get_or bs j 0 in
-    set (set (set (set (set (set (set (set xs k (b 0)) (i + 1) (b 1)) (i + 2) (b 2)) (i + 3) (b 3)) (i + 4) (b 4)) (i + 5) (b 5)) (i + 6) (b 6)) (i + 7) (b 7)
-
-module _ (xs bs : List ℕ) (i w : ℕ) (room : i + 8 ≤ length xs) where
-  more : (n : ℕ) (ys : List ℕ) → n < 8 → get_or bs n 0 ≡ w / 2 ^ (8 * n) % 2 ^ 8 → Stored xs i w n ys → Stored xs i w (n + 1) (set ys (i + n) (get_or bs n 0))
-  more n ys h e s = stored_more xs ys i w n (get_or bs n 0) (omega arith) e s
-
-  pub stored-word : bs ≡ (w % 256) ∷ (w / 256 % 256) ∷ (w / 65536 % 256) ∷ (w / 16777216 % 256) ∷ (w / 4294967296 % 256) ∷ (w / 1099511627776 % 256) ∷ (w / 281474976710656 % 256) ∷ (w / 72057594037927936 % 256) ∷ []
-      → Stored xs i w 8 (eight xs i i bs)
-  stored-word e =
-      let first : get_or bs 0 0 ≡ w / 1 % 256 = omega (arith, ap (λ l. get_or l 0 0) e) in
-      let s₁ = more 0 xs (omega arith) first (stored-none xs i w) in
-      let s₂ = more 1 _ (omega arith) (ap (λ l. get_or l 1 0) e) s₁ in
-      let s₃ = more 2 _ (omega arith) (ap (λ l. get_or l 2 0) e) s₂ in
-      let s₄ = more 3 _ (omega arith) (ap (λ l. get_or l 3 0) e) s₃ in
-      let s₅ = more 4 _ (omega arith) (ap (λ l. get_or l 4 0) e) s₄ in
-      let s₆ = more 5 _ (omega arith) (ap (λ l. get_or l 5 0) e) s₅ in
-      let s₇ = more 6 _ (omega arith) (ap (λ l. get_or l 6 0) e) s₆ in
-      subst (λ k. Stored xs i w 8 (eight xs i k bs)) (let d : i + 0 ≡ i = omega arith in d) (more 7 _ (omega arith) (ap (λ l. get_or l 7 0) e) s₇)
+-- the first n bytes of a word copied over others from byte i on
+pub stored-bytes : (xs ys bs : List ℕ) (i k n w : ℕ) → i + n ≤ length xs → n ≤ 8 → k ≡ n → ys ≡ take n bs
+    → bs ≡ (w % 256) ∷ (w / 256 % 256) ∷ (w / 65536 % 256) ∷ (w / 16777216 % 256) ∷ (w / 4294967296 % 256) ∷ (w / 1099511627776 % 256) ∷ (w / 281474976710656 % 256) ∷ (w / 72057594037927936 % 256) ∷ []
+    → Stored xs i w n (put_mid i k xs ys)
+stored-bytes xs ys bs i k n w room few e f g =
+    let long : length ys ≡ n = omega (arith, ap length f, length-take-le n bs (omega (arith, ap length g))) in
+    let part : length ys ≡ length (take k (drop i xs)) = omega (arith, length-take-le k (drop i xs) (omega (arith, length-drop i xs))) in
+    record {
+      long = same_len_mid i k xs ys part;
+      old = λ j h. search (rules, places);
+      new = λ j h. get_or_mid xs ys i k j (omega arith) (omega arith) ∙ ap (λ l. get_or l j 0) (f ∙ ap (take n) g) ∙ get_or-take n _ j 0 h ∙ byte-of w j (omega arith);
+      rest = drop-put_mid i k xs ys (i + n) (omega arith) (omega arith) (omega arith);
+    }
 
 -- the bytes that hold m rows more, after q rows that end at a byte
 module _ (xs ys : List ℕ) (q i w n m : ℕ) (at : q ≡ 8 * i) (bytes : n ≡ bytes_of m) (s : Stored xs i w n ys) where

@@ -26,15 +26,11 @@ impl<'a> MaskRunIter<'a> {
 }
 
 impl<'a> RunSource for MaskRunIter<'a> {
-    ghost rows = { λ s. left s };
-
-    ghost within = { λ s. few-left s };
+    ghost rows = { left };
 
     fn next_run(&mut self) -> Option<RowSelector> {
         let at = self.at;
-        let Some(set) = self.mask.value(at) else {
-            return None;
-        };
+        let set = self.mask.value(at)?;
         let to = self.mask.next_change(at);
         self.at = to;
         Some(RowSelector {
@@ -42,14 +38,16 @@ impl<'a> RunSource for MaskRunIter<'a> {
             skip: !set,
         })
     }
+
+    ghost within = { few-left };
 }
 
 impl<'a> CountedSource for MaskRunIter<'a> {
     fn rows_left(&self) -> usize {
-        self.mask.len().saturating_sub(self.at)
+        self.rest().len()
     }
 
     fn selected_left(&self) -> usize {
-        self.mask.slice(self.at, self.mask.len()).count_set_bits()
+        self.rest().count_set_bits()
     }
 }

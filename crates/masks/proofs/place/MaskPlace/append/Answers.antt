@@ -1,4 +1,4 @@
-use Rattle.std.proofs.Common.{◌/◌, refl, arith, length-set}
+use Rattle.std.proofs.Common.{◌/◌, ◌<◌, length, refl, arith, length-set}
 use Rattle.bits.proofs.Words.{rows_append}
 use Rattle.masks.proofs.SpareLaws.{spare_more, keeps-more}
 use Rattle.masks.proofs.place.MaskPlace.append.Goals as goal
@@ -8,10 +8,11 @@ invariant_of-self c =
     let s = c.args.self.now in
     let xs = s.bytes.now in
     let v = c.topped-v.result in
+    let here : s.len / 8 < length xs = omega (arith, c.requires.some, c.requires.room.0) in
     record {
-      inside = omega (arith, length-set xs (s.len / 8) v, c.requires.room.0, c.requires.room.1.0);
-      spare = spare_more xs s.len c.args.m v c.requires.room.0 c.requires.room.1.0 c.topped-v.ensures.small;
-      few = c.requires.room.1.1;
+      inside = omega (arith, length-set xs (s.len / 8) v, c.requires.room.0);
+      spare = spare_more xs s.len c.args.m v here c.requires.byte c.topped-v.ensures.small;
+      few = c.requires.room.1;
     }
 
 pub returns : goal.returns
@@ -19,8 +20,9 @@ returns c =
     let s = c.args.self.now in
     let xs = s.bytes.now in
     let v = c.topped-v.result in
+    let here : s.len / 8 < length xs = omega (arith, c.requires.some, c.requires.room.0) in
     record {
-      rows = rows_append xs s.len c.args.m v c.args.set c.requires.room.0 c.requires.room.1.0 c.topped-v.ensures.kept c.topped-v.ensures.added;
+      rows = rows_append xs s.len c.args.m v c.args.set here c.requires.byte c.topped-v.ensures.kept c.topped-v.ensures.added;
       len = refl;
       rest = (refl, length-set xs (s.len / 8) v, keeps-more xs s.len c.args.m v c.requires.some);
     }

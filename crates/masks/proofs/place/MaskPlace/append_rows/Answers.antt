@@ -1,28 +1,36 @@
-use Rattle.std.proofs.Common.{◌/◌, refl, arith}
-use Rattle.masks.proofs.StoreLaws.{stored_more, stored-rows, stored-spare, stored-keeps}
+use Rattle.std.proofs.Common.{◌≡◌, ◌+◌, ◌-◌, ◌/◌, ◌≤◌, refl, arith}
+use borrow.Rule.Slice.PartMut.{put_mid}
+use Rattle.masks.specs.Spares.{bytes_of}
+use Rattle.masks.specs.Stores.{Stored}
+use Rattle.masks.proofs.StoreLaws.{stored-bytes, stored-rows, stored-spare, stored-keeps}
 use Rattle.masks.proofs.place.MaskPlace.append_rows.Goals as goal
+use Rattle.masks.proofs.place.MaskPlace.append_rows.Goals.{After-copy_from_slice}
 
-pub loop-j-preserved : goal.loop-j-preserved
-loop-j-preserved c =
-    let s = c.args.self.now in
-    let inv = c.loop-j.invariant in
-    (inv.0, inv.1, stored_more s.bytes.now c.loop-j.self.bytes.now (s.len / 8) c.args.w c.loop-j.j _ (omega (arith, c.requires.begins, c.requires.room.0)) refl inv.2)
+used : (c : After-copy_from_slice) → c.div_ceil-used.result ≡ bytes_of c.args.n
+used c = omega (arith, c.div_ceil-used.ensures)
 
-pub invariant_of-self-2 : goal.invariant_of-self-2
-invariant_of-self-2 c =
+stored : (c : After-copy_from_slice) → Stored c.args.self.now.bytes.now (c.args.self.now.len / 8) c.args.w c.div_ceil-used.result (put_mid (c.args.self.now.len / 8) (c.args.self.now.len / 8 + c.div_ceil-used.result - c.args.self.now.len / 8) c.args.self.now.bytes.now c.copy_from_slice.new.self)
+stored c =
     let s = c.args.self.now in
-    let t = c.loop-j.self in
-    let stored = c.loop-j.invariant.2 in
-    let spare = stored-spare s.bytes.now t.bytes.now s.len (s.len / 8) c.args.w c.loop-j.j c.args.n (omega (arith, c.requires.begins)) (omega arith) stored c.requires.word.1 in
-    record { inside = omega (arith, c.requires.room.0, stored.long); spare = spare; few = c.requires.room.1 }
+    let few : c.args.n ≤ 64 = c.requires.word.0 in
+    stored-bytes s.bytes.now _ c.to_le_bytes.result (s.len / 8) _ c.div_ceil-used.result c.args.w (omega (arith, used c, c.requires.begins, c.requires.room.0)) (omega (arith, used c)) (omega arith) c.copy_from_slice.ensures.after c.to_le_bytes.ensures
+
+pub invariant_of-self : goal.invariant_of-self
+invariant_of-self c =
+    let s = c.args.self.now in
+    let d = (goal.at.invariant_of-self c).After-copy_from_slice in
+    record {
+      inside = omega (arith, c.requires.room.0, (stored d).long);
+      spare = stored-spare s.bytes.now _ s.len (s.len / 8) c.args.w _ c.args.n (omega (arith, c.requires.begins)) (used d) (stored d) c.requires.word.1;
+      few = c.requires.room.1;
+    }
 
 pub returns : goal.returns
 returns c =
     let s = c.args.self.now in
-    let t = c.loop-j.self in
-    let stored = c.loop-j.invariant.2 in
+    let d = (goal.at.returns c).After-copy_from_slice in
     record {
-      rows = stored-rows s.bytes.now t.bytes.now s.len (s.len / 8) c.args.w c.loop-j.j c.args.n (omega (arith, c.requires.begins)) (omega arith) stored;
+      rows = stored-rows s.bytes.now _ s.len (s.len / 8) c.args.w _ c.args.n (omega (arith, c.requires.begins)) (used d) (stored d);
       len = refl;
-      rest = (c.loop-j.invariant.1, stored.long, stored-keeps s.bytes.now t.bytes.now s.len (s.len / 8) c.args.w c.loop-j.j c.args.n (omega (arith, c.requires.begins)) (omega arith) stored);
+      rest = (refl, (stored d).long, stored-keeps s.bytes.now _ s.len (s.len / 8) c.args.w _ c.args.n (omega (arith, c.requires.begins)) (used d) (stored d));
     }

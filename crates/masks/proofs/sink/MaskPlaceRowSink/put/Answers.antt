@@ -11,15 +11,15 @@ returns-then-n-eq0 c =
     let b = not c.args.run.skip in
     record { takes = (mask-room s.bytes.now (length s.bytes.now) s.len n b (omega (arith, s.few, c.if-n-eq0.true)) (omega (arith, s.inside, c.if-n-eq0.true)), none_more (written s) n b c.if-n-eq0.true); stays = refl; rest = untouched-same s }
 
-pub returns-then-at-n : goal.returns-then-at-n
-returns-then-at-n c =
+pub returns-then-self-n : goal.returns-then-self-n
+returns-then-self-n c =
     let s = c.args.self.now in
-    record { takes = (past-limit s.bytes.now _ s.len c.args.run.row_count (not c.args.run.skip) (omega (arith, s.few, c.if-at-n.true)), refl); stays = refl; rest = untouched-same s }
+    record { takes = (past-limit s.bytes.now _ s.len c.args.run.row_count (not c.args.run.skip) (omega (arith, s.few, c.if-self-n.true)), refl); stays = refl; rest = untouched-same s }
 
-pub returns-then-self-bytes_for : goal.returns-then-self-bytes_for
-returns-then-self-bytes_for c =
+pub returns-then-self-div_ceil : goal.returns-then-self-div_ceil
+returns-then-self-div_ceil c =
     let s = c.args.self.now in
-    record { takes = (past_bytes s.bytes.now _ s.len c.args.run.row_count (not c.args.run.skip) (omega (arith, c.bytes_for.ensures, c.if-self-bytes_for.true)), refl); stays = refl; rest = untouched-same s }
+    record { takes = (past_bytes s.bytes.now _ s.len c.args.run.row_count (not c.args.run.skip) (omega (arith, c.div_ceil.ensures, c.if-self-div_ceil.true)), refl); stays = refl; rest = untouched-same s }
 
 pub loop-self-preserved : goal.loop-self-preserved
 loop-self-preserved c =
@@ -29,10 +29,10 @@ loop-self-preserved c =
     let i = c.loop-self.invariant in
     let m = c.extend.result in
     let p = c.extend.ensures in (
-      omega (arith, p.len, i.0),
-      omega (arith, p.len, p.some.1, c.loop-self-test.true),
-      longer (written s) _ _ (not c.args.run.skip) s.len t.len m u.len i.0 p.len i.2 p.rows,
-      untouched-chain s t u (replicate m (not c.args.run.skip)) p.rows i.3 p.rest,
+      omega (arith, p.rows.len, i.0),
+      omega (arith, p.rows.len, p.some.1, c.loop-self-test.true),
+      longer (written s) _ _ (not c.args.run.skip) s.len t.len m u.len i.0 p.rows.len i.2 p.rows.rows,
+      untouched-chain s t u (replicate m (not c.args.run.skip)) p.rows.rows i.3 p.rows.rest,
     )
 
 pub returns : goal.returns
@@ -44,7 +44,7 @@ returns c =
     let b = not c.args.run.skip in
     let all : t.len ≡ s.len + n = omega (arith, i.1, c.loop-self-test.false) in
     record {
-      takes = (mask-room s.bytes.now (length s.bytes.now) s.len n b (omega (arith, s.few, c.if-at-n.false)) (omega (arith, c.bytes_for.ensures, c.if-self-bytes_for.false)), all_of (written s) _ b s.len n t.len all i.2);
+      takes = (mask-room s.bytes.now (length s.bytes.now) s.len n b (omega (arith, s.few, c.if-self-n.false)) (omega (arith, c.div_ceil.ensures, c.if-self-div_ceil.false)), all_of (written s) _ b s.len n t.len all i.2);
       stays = i.3.1;
       rest = i.3;
     }

@@ -5,18 +5,18 @@ use Rattle.bits.specs.Masks.{rows}
 use Rattle.masks.proofs.RunsLeft.{none_left, change, some-ahead, run-rows, run-stops}
 use Rattle.masks.proofs.source.MaskRunIterRunSource.next_run.Goals as goal
 
-pub returns-in_default : goal.returns-in_default
-returns-in_default c =
+pub returns-in_err-set : goal.returns-in_err-set
+returns-in_err-set c =
     let s = c.args.self.now in
-    let none = none_left (rows s.mask) s.at (sym c.in_default.ensures) in
-    (none, none)
+    let none = none_left (rows s.mask) s.at (sym c.in_err-set.ensures) in
+    rw c.from_residual.ensures (none, none)
 
 pub returns : goal.returns
 returns c =
     let s = c.args.self.now in
     let xs = rows s.mask in
-    let b = c.in-Some.set in
-    let here = sym c.in-Some.ensures in
+    let b = c.in_ok-set.set in
+    let here = sym c.in_ok-set.ensures in
     let to = c.next_change-to.ensures in
     let n = c.next_change-to.result in
     let same = sym (not-not b) in
