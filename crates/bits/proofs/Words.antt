@@ -29,18 +29,18 @@ half_lt n k h = shr_lt k 1 (subst (λ (x : ℕ). n < 2 ^ x) (sym (add-one k)) h)
 half-bit : (n j : ℕ) → bit_at (n / 2) (0 + j) ≡ bit_at n (1 + j)
 half-bit n j = ap (bit_at (n / 2)) (let e : 0 + j ≡ j = omega arith in e) ∙ bit-same (n / 2) n j (1 + j) (digit-shr n 1 j)
 
-pub ones-selected : (k n : ℕ) → n < 2 ^ k → ones n ≡ selected_count (word_rows n k)
+pub ones_selected : (k n : ℕ) → n < 2 ^ k → ones n ≡ selected_count (word_rows n k)
 unfolding rows_of
-ones-selected zero n h = ap ones (let e : n ≡ 0 = omega arith in e) ∙ ones-zero
-ones-selected (suc k) n h =
+ones_selected zero n h = ap ones (let e : n ≡ 0 = omega arith in e) ∙ ones-zero
+ones_selected (suc k) n h =
     ones_step n
     ∙ ap₂ (λ (x y : ℕ). x + y) (first-digit n)
-    (ones-selected k (n / 2) (half_lt n k h) ∙ ap selected_count (rows_ext (bit_at (n / 2)) (bit_at n) 0 1 k (λ j l. half-bit n j)))
+    (ones_selected k (n / 2) (half_lt n k h) ∙ ap selected_count (rows_ext (bit_at (n / 2)) (bit_at n) 0 1 k (λ j l. half-bit n j)))
     ∙ sym (selected-cons (bit_at n 0) (rows_of (bit_at n) 1 k))
 
 -- the bits above a number's digits are not counted
 pub selected-short : (k m n : ℕ) → n < 2 ^ k → k ≤ m → selected_count (word_rows n m) ≡ selected_count (word_rows n k)
-selected-short k m n h l = sym (ones-selected m n (lt_of_lt_of_le h (pow_mono l))) ∙ ones-selected k n h
+selected-short k m n h l = sym (ones_selected m n (lt_of_lt_of_le h (pow_mono l))) ∙ ones_selected k n h
 
 -- the n low bits of w % 2 ^ n are those of w
 pub low_rows : (w n : ℕ) → word_rows (w % 2 ^ n) n ≡ word_rows w n
@@ -54,7 +54,7 @@ high-rows w s n = rows_ext (bit_at (w / 2 ^ s)) (bit_at w) 0 s n (λ k l.
 -- the set bits of a byte between two places
 pub ones-part : (b from to : ℕ) → from ≤ to → ones (b % 2 ^ to / 2 ^ from) ≡ selected_count (rows_of (bit_at b) from (to - from))
 ones-part b from to h =
-    ones-selected (to - from) (b % 2 ^ to / 2 ^ from)
+    ones_selected (to - from) (b % 2 ^ to / 2 ^ from)
     (shr_lt (to - from) from (subst (λ (x : ℕ). b % 2 ^ to < 2 ^ x) (let e : to ≡ to - from + from = omega arith in e) (mod-lt b (pow_pos to))))
     ∙ ap selected_count (high-rows (b % 2 ^ to) from (to - from)
     ∙ rows_ext (bit_at (b % 2 ^ to)) (bit_at b) from from (to - from) (λ k l. bit-same (b % 2 ^ to) b (from + k) (from + k) (digit_low b to (from + k) (omega arith))))

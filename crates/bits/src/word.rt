@@ -4,6 +4,7 @@ ghost use Rattle.rows.specs.Rows.{selected_count};
 ghost use Rattle.bits.specs.Bits.{bit_at, row_at, mask_rows, word_rows};
 
 // The bit at place p.
+#[tactic(auto, unfolding(crate::specs::Bits::row_at, crate::specs::Bits::bit_at, crate::specs::Bits::digit))]
 pub(crate) fn bit_at(bytes: &[u8], p: usize) -> bool
     requires { p < 8 * length bytes.now }
     ensures { result ≡ row_at bytes.now p }
@@ -50,6 +51,7 @@ pub(crate) fn low_bits(w: u64, n: usize) -> u64
 }
 
 // How many bits of a word are set.
+#[tactic(auto, using(crate::proofs::Words::ones_selected))]
 pub(crate) fn word_ones(w: u64) -> usize
     ensures { result ≡ selected_count (word_rows w 64) }
 {

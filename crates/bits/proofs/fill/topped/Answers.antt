@@ -35,12 +35,6 @@ pub overflow_cast-result : goal.overflow_cast-result
 overflow_cast-result c =
     omega (arith, below c.args.old c.args.s c.args.m c.requires, byte c.args.old c.args.s c.args.m c.requires)
 
-pub overflow_cast-result-else-set : goal.overflow_cast-result-else-set
-overflow_cast-result-else-set c =
-    let l : c.args.s ≤ 8 = omega arith in
-    let up : 2 ^ c.args.s ≤ 2 ^ 8 = pow_mono l in
-    omega (arith, kept-small c.args.old c.args.s c.args.m c.requires)
-
 pub returns-then-set : goal.returns-then-set
 returns-then-set c =
     let b = c.args.old in
