@@ -52,10 +52,6 @@ pub rows-nil : (f : ℕ → Bool) (a n : ℕ) → n ≡ 0 → rows_of f a n ≡ 
 unfolding rows_of
 rows-nil f a n e = ap (rows_of f a) e
 
-pub rows-cons : (f : ℕ → Bool) (a n m : ℕ) → n ≡ suc m → rows_of f a n ≡ f a ∷ rows_of f (a + 1) m
-unfolding rows_of
-rows-cons f a n m e = ap (rows_of f a) e
-
 -- rows after k dropped ones, and the first m of what is left
 pub rows_drop : (f : ℕ → Bool) (a n k : ℕ) → k ≤ n → drop k (rows_of f a n) ≡ rows_of f (a + k) (n - k)
 unfolding rows_of
@@ -65,7 +61,7 @@ rows_drop f a (suc n) (suc k) h =
     rows_drop f (a + 1) n k (omega arith)
     ∙ ap₂ (rows_of f) (let e : a + 1 + k ≡ a + suc k = omega arith in e) (let e : n - k ≡ suc n - suc k = omega arith in e)
 
-pub rows_take : (f : ℕ → Bool) (a n m : ℕ) → take m (rows_of f a n) ≡ rows_of f a (min m n)
+rows_take : (f : ℕ → Bool) (a n m : ℕ) → take m (rows_of f a n) ≡ rows_of f a (min m n)
 unfolding rows_of
 rows_take f a n zero = ap (rows_of f a) (let e : 0 ≡ min 0 n = omega arith in e)
 rows_take f a zero (suc m) = ap (rows_of f a) (let e : 0 ≡ min (suc m) 0 = omega arith in e)

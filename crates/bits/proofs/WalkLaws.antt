@@ -1,7 +1,7 @@
 -- Laws of leading stretches, and of a step of a walk over the selected rows. Assumes nothing.
 use Rattle.std.proofs.Common.{◌≡◌, ℕ, suc, ◌+◌, ◌-◌, ◌<◌, ◌≤◌, Bool, true, false, cond, not, ltb, List, [], ◌∷◌, ◌++◌, length, get_or, drop, replicate, Some, None, sym, refl, ap, ◌∙◌, subst, ap₂, arith}
 use Rattle.std.proofs.lemmas.List.{drop-drop, drop_more}
-use Rattle.std.proofs.lemmas.Bool.{lt-ltb, ltb-true, true≢false}
+use Rattle.std.proofs.lemmas.Bool.{ltb-true, true≢false}
 use Rattle.rows.specs.Rows.{selected_count, chosen, NotFirst}
 use Rattle.rows.specs.Chunks.{leading}
 use Rattle.bits.specs.Bits.{rows_of}
@@ -43,13 +43,6 @@ module _ (xs : List Bool) (i : ℕ) (b : Bool) (here : value_at xs i ≡ Some b)
       go : (t : Bool) → ltb i (length xs) ≡ t → i < length xs
       go true e = ltb-true i (length xs) e
       go false e = absurd (let f : None ≡ Some b = sym (ap (λ t. cond t (Some (get_or xs i false)) None) e) ∙ here in let z : ◌≡◌ {A = ℕ} 0 1 = cc in omega arith)
-
-  pub change-is : next_change xs i ≡ i + leading b (drop i xs)
-  change-is =
-      let inside = lt-ltb i (length xs) has-row in
-      let f : Some (get_or xs i false) ≡ Some b = sym (ap (λ t. cond t (Some (get_or xs i false)) None) inside) ∙ here in
-      let mark : get_or xs i false ≡ b = cc in
-      ap (λ t. cond t (i + leading (get_or xs i false) (drop i xs)) (length xs)) inside ∙ ap (λ c. i + leading c (drop i xs)) mark
 
 -- there is no row i
 pub no-change : (xs : List Bool) (i : ℕ) → value_at xs i ≡ None → next_change xs i ≡ length xs
