@@ -17,9 +17,7 @@ pub struct Combined<'a, 'b, P> {
 }
 
 impl<'a, 'b, P: Policy> WordRows for Combined<'a, 'b, P> {
-    ghost rows = { λ s. combine P.Policy.rule (rows_of_mask s.first) (rows_of_mask s.second) };
-
-    ghost within = { λ s. few-combined P.Policy.rule s.first s.second };
+    ghost rows = { λ s. combine P.rule (rows_of_mask s.first) (rows_of_mask s.second) };
 
     fn len(&self) -> usize {
         self.first.len().max(self.second.len())
@@ -40,4 +38,6 @@ impl<'a, 'b, P: Policy> WordRows for Combined<'a, 'b, P> {
         };
         splice(P::word(x, y), longer, both)
     }
+
+    ghost within = { λ s. few-combined P.rule s.first s.second };
 }

@@ -1,7 +1,6 @@
 // A mask's rows written after another's, word by word.
-ghost use Rattle.std.specs.Prelude.{◌≡◌, ◌++◌, MatchResult};
-ghost use Rattle.refusals.specs.Refusals.{verdict};
-ghost use Rattle.runs.specs.Sinks.{joins};
+ghost use Rattle.std.specs.Prelude.{◌++◌};
+ghost use Rattle.runs.specs.Sinks.{Writes, joins};
 ghost use Rattle.bits.specs.Masks.{rows as rows_of_mask};
 
 use crate::joined::Joined;
@@ -14,9 +13,7 @@ use runs::sink::RowSink;
 
 // The second's rows after the first's. Refused by 1 where they pass the row limit together, then by 12.
 pub fn join_masks<K: WordSink>(first: Mask, second: Mask, out: &mut K) -> Result<(), SelectionFault>
-    ensures verdict { verdict result ≡ joins K.RowSink.layer K.RowSink.cost (K.RowSink.capacity out.old) (rows_of_mask first.entry) (rows_of_mask second.entry) }
-    ensures written { MatchResult result (λ _. K.RowSink.rows out.new ≡ rows_of_mask first.entry ++ rows_of_mask second.entry) (λ _. out.new ≡ out.old) }
-    ensures rest { K.RowSink.keeps out.old out.new }
+    ensures { Writes K.sink out.old (joins K.sink out.old (rows_of_mask first.entry) (rows_of_mask second.entry)) (rows_of_mask first.entry ++ rows_of_mask second.entry) result out.new }
 {
     if first.len() + second.len() > ROW_LIMIT {
         return Err(SelectionFault::RowLimit(1));

@@ -19,8 +19,6 @@ pub struct Joined<'a, 'b> {
 impl<'a, 'b> WordRows for Joined<'a, 'b> {
     ghost rows = { λ s. rows_of_mask s.first ++ rows_of_mask s.second };
 
-    ghost within = { λ s. few-joined (rows_of_mask s.first) (rows_of_mask s.second) s.few };
-
     fn len(&self) -> usize {
         self.first.len() + self.second.len()
     }
@@ -37,4 +35,6 @@ impl<'a, 'b> WordRows for Joined<'a, 'b> {
         }
         splice(w, self.second.word(0) << own, own)
     }
+
+    ghost within = { λ s. few-joined (rows_of_mask s.first) (rows_of_mask s.second) s.few };
 }

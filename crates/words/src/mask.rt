@@ -6,9 +6,7 @@ use crate::word_rows::WordRows;
 use bits::mask::Mask;
 
 impl<'a> WordRows for Mask<'a> {
-    ghost rows = { λ s. rows_of_mask s };
-
-    ghost within = { λ s. few-rows s };
+    ghost rows = { rows_of_mask };
 
     fn len(&self) -> usize {
         Mask::len(self)
@@ -17,4 +15,6 @@ impl<'a> WordRows for Mask<'a> {
     fn word(&self, at: usize) -> u64 {
         Mask::word(self, at)
     }
+
+    ghost within = { few-rows };
 }

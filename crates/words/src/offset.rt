@@ -1,8 +1,7 @@
 // The first selected rows of a mask skipped, word by word.
-ghost use Rattle.std.specs.Prelude.{◌≡◌, length, MatchResult, nat_lt};
-ghost use Rattle.refusals.specs.Refusals.{verdict};
+ghost use Rattle.std.specs.Prelude.{◌≡◌, length, nat_lt};
 ghost use Rattle.rows.specs.Rules.{offset, trimmed};
-ghost use Rattle.runs.specs.Sinks.{placed};
+ghost use Rattle.runs.specs.Sinks.{Delivers};
 ghost use Rattle.bits.specs.Masks.{rows as rows_of_mask};
 ghost use Rattle.words.specs.Fronts.{skip_front};
 
@@ -16,10 +15,7 @@ use runs::sink::RowSink;
 fn selects_from(mask: Mask, cut: usize) -> bool
     ensures { result ≡ nat_lt cut (length (trimmed (rows_of_mask mask.entry))) }
 {
-    match mask.last_set_bit() {
-        Some(last) => cut <= last,
-        None => false,
-    }
+    mask.last_set_bit().is_some_and(|last| cut <= last)
 }
 
 // The mask with its first n selected rows skipped, or no rows where no selected row is past the n-th.
@@ -38,9 +34,7 @@ fn after_nth<'a>(mask: Mask<'a>, n: usize) -> SkippedTo<'a>
 
 // The first n selected rows are skipped instead; where no selected row is past the n-th, nothing is left. Refused by 12.
 pub fn offset_mask<K: WordSink>(mask: Mask, n: usize, out: &mut K) -> Result<(), SelectionFault>
-    ensures verdict { verdict result ≡ placed K.RowSink.layer K.RowSink.cost (K.RowSink.capacity out.old) (offset n (rows_of_mask mask.entry)) }
-    ensures written { MatchResult result (λ _. K.RowSink.rows out.new ≡ offset n (rows_of_mask mask.entry)) (λ _. out.new ≡ out.old) }
-    ensures rest { K.RowSink.keeps out.old out.new }
+    ensures { Delivers K.sink out.old (offset n (rows_of_mask mask.entry)) result out.new }
 {
     out.take_words(after_nth(mask, n))
 }

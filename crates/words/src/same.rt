@@ -13,12 +13,10 @@ pub fn same_mask_rows(a: Mask, b: Mask) -> bool
     if b.len() != n {
         return false;
     }
-    let mut at = 0usize;
-    while at < n {
-        if a.word(at) != b.word(at) {
+    for i in 0..n.div_ceil(64) {
+        if a.word(64 * i) != b.word(64 * i) {
             return false;
         }
-        at += 64;
     }
     true
 }

@@ -1,7 +1,7 @@
 // Row sinks that take rows by words.
-ghost use Rattle.std.specs.Prelude.{◌≡◌, MatchResult};
+ghost use Rattle.std.specs.Prelude.{◌≡◌};
 ghost use Rattle.refusals.specs.Refusals.{verdict};
-ghost use Rattle.runs.specs.Sinks.{placed};
+ghost use Rattle.runs.specs.Sinks.{Delivers, placed};
 
 use crate::word_rows::WordRows;
 use crate::word_runs::WordRuns;
@@ -14,13 +14,11 @@ use runs::sink::RowSink;
 pub trait WordSink: RowSink {
     // Whether all rows have room; refused by 12.
     fn admits_words<W: WordRows>(&self, from: W) -> Result<(), SelectionFault>
-        ensures { verdict result ≡ placed Self.RowSink.layer Self.RowSink.cost (Self.RowSink.capacity self.now) (W.WordRows.rows from) };
+        ensures { verdict result ≡ placed Self.sink self.now (W.rows from) };
 
     // Writes all rows at the start of the sink, or refuses it by 12 as too small and leaves it.
     fn take_words<W: WordRows>(&mut self, from: W) -> Result<(), SelectionFault>
-        ensures verdict { verdict result ≡ placed Self.RowSink.layer Self.RowSink.cost (Self.RowSink.capacity self.old) (W.WordRows.rows from) }
-        ensures written { MatchResult result (λ _. Self.RowSink.rows self.new ≡ W.WordRows.rows from) (λ _. self.new ≡ self.old) }
-        ensures rest { Self.RowSink.keeps self.old self.new };
+        ensures { Delivers Self.sink self.old (W.rows from) result self.new };
 }
 
 impl<'a> WordSink for RunPlace<'a> {
@@ -42,12 +40,11 @@ impl<'a> WordSink for MaskPlace<'a> {
         let n = from.len();
         self.admit(n, 0)?;
         self.clear();
-        let mut at = 0usize;
-        while n - at >= 64 {
-            self.append_word(from.word(at));
-            at += 64;
+        let words = n / 64;
+        for i in 0..words {
+            self.append_word(from.word(64 * i));
         }
-        self.append_rows(from.word(at), n - at);
+        self.append_rows(from.word(64 * words), n % 64);
         Ok(())
     }
 }

@@ -17,8 +17,6 @@ pub struct SkippedTo<'a> {
 impl<'a> WordRows for SkippedTo<'a> {
     ghost rows = { λ s. skip_front s.cut (rows_of_mask s.mask) };
 
-    ghost within = { λ s. few-skipped s.cut s.mask };
-
     fn len(&self) -> usize {
         self.mask.len()
     }
@@ -30,4 +28,6 @@ impl<'a> WordRows for SkippedTo<'a> {
         }
         splice(0, self.mask.word(at), skipped)
     }
+
+    ghost within = { λ s. few-skipped s.cut s.mask };
 }

@@ -7,9 +7,6 @@ ghost use Rattle.bits.specs.Bits.{bit_at};
 pub trait WordRows: Copy {
     ghost rows: { Self → List Bool };
 
-    // no more rows than the limit: a proof that each impl gives
-    ghost within: { (s : Self) → length (rows s) ≤ row_limit };
-
     // How many rows there are.
     fn len(&self) -> usize
         ensures { result ≡ length (rows self.now) };
@@ -17,4 +14,7 @@ pub trait WordRows: Copy {
     // The 64 rows from row `at` on, the first of them as bit 0; the bits past the last row are 0.
     fn word(&self, at: usize) -> u64
         ensures { (k : ℕ) → k < 64 → bit_at result k ≡ Selects (rows self.now) (at + k) };
+
+    // no more rows than the limit
+    ghost within: { (s : Self) → length (rows s) ≤ row_limit };
 }

@@ -14,7 +14,7 @@ pub struct WordRuns<W> {
 }
 
 impl<W: WordRows> Pieces for WordRuns<W> {
-    ghost rows = { λ s. drop s.at (W.WordRows.rows s.from) };
+    ghost rows = { λ s. drop s.at (W.rows s.from) };
 
     fn piece(&mut self) -> Option<RowSelector> {
         let at = self.at;

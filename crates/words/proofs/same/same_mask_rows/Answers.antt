@@ -1,19 +1,16 @@
-use Rattle.std.proofs.Common.{arith}
+use Rattle.std.proofs.Common.{◌≡◌, ◌+◌, ◌*◌, subst, arith}
 use Rattle.bits.specs.Masks.{rows}
-use Rattle.words.specs.Shown.{few-rows}
-use Rattle.words.proofs.SameLaws.{agree-more, agree-all, words-differ}
+use Rattle.words.proofs.SameLaws.{Agree, agree-more, agree-all, words-differ}
 use Rattle.words.proofs.same.same_mask_rows.Goals as goal
 
 pub returns-then-word : goal.returns-then-word
-returns-then-word c = words-differ (rows c.args.a) (rows c.args.b) c.loop-at.at c.word.result c.word-in-loop-at.result c.word.ensures c.word-in-loop-at.ensures c.word.type_inv c.word-in-loop-at.type_inv c.if-word.true
+returns-then-word c = words-differ (rows c.args.a) (rows c.args.b) (64 * c.loop-i.i) c.word.result c.word-in-loop-i.result c.word.ensures c.word-in-loop-i.ensures c.word.type_inv c.word-in-loop-i.type_inv c.if-word.true
 
-pub overflow_add-at : goal.overflow_add-at
-overflow_add-at c = omega (arith, c.len-n.ensures, few-rows c.args.a)
-
-pub loop-at-preserved : goal.loop-at-preserved
-loop-at-preserved c =
-    let more = agree-more (rows c.args.a) (rows c.args.b) c.loop-at.at c.word.result c.word-in-loop-at.result c.word.ensures c.word-in-loop-at.ensures c.loop-at.invariant.1 c.if-word.false in
-    (omega arith, more)
+pub loop-i-preserved : goal.loop-i-preserved
+loop-i-preserved c =
+    let i = c.loop-i.i in
+    let more = agree-more (rows c.args.a) (rows c.args.b) (64 * i) c.word.result c.word-in-loop-i.result c.word.ensures c.word-in-loop-i.ensures c.loop-i.invariant c.if-word.false in
+    subst (Agree (rows c.args.a) (rows c.args.b)) (let e : 64 * i + 64 ≡ 64 * (i + 1) = omega arith in e) more
 
 pub returns : goal.returns
-returns c = agree-all (rows c.args.a) (rows c.args.b) c.loop-at.at (omega (arith, c.len-n.ensures, c.len.ensures, c.if-len-n.false)) (omega (arith, c.len-n.ensures)) c.loop-at.invariant.1
+returns c = agree-all (rows c.args.a) (rows c.args.b) (64 * c.loop-i.i) (omega (arith, c.len-n.ensures, c.len.ensures, c.if-len-n.false)) (omega (arith, c.len-n.ensures, c.div_ceil-i-end.ensures)) c.loop-i.invariant

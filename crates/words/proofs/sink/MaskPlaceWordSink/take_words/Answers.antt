@@ -1,4 +1,4 @@
-use Rattle.std.proofs.Common.{◌≡◌, ◌+◌, ◌-◌, ◌++◌, length, sym, refl, ap, ◌∙◌, arith, take_all}
+use Rattle.std.proofs.Common.{◌≡◌, ◌+◌, ◌*◌, ◌/◌, ◌%◌, ◌++◌, length, take, sym, refl, ap, ◌∙◌, arith, take_all}
 use Rattle.refusals.specs.Refusals.{bits}
 use Rattle.runs.specs.Sinks.{admitted}
 use Rattle.bits.specs.Bits.{row_at, word_rows}
@@ -10,50 +10,58 @@ use Rattle.runs.proofs.SinkLaws.{admits}
 use Rattle.words.proofs.WordLaws.{words_more, word_small}
 use Rattle.words.proofs.sink.MaskPlaceWordSink.take_words.Goals as goal
 
-pub loop-at-init : goal.loop-at-init
-loop-at-init g c =
+pub loop-i-init : goal.loop-i-init
+loop-i-init g c =
     let s = c.clear.new.self in
-    (omega (arith, ap length c.clear.ensures.none, length-rows (row_at s.bytes.now) 0 s.len), refl, omega arith, c.clear.ensures.none, (refl, refl, refl))
+    (omega (arith, ap length c.clear.ensures.none, length-rows (row_at s.bytes.now) 0 s.len), c.clear.ensures.none, (refl, refl, refl))
 
-pub loop-at-preserved : goal.loop-at-preserved
-loop-at-preserved g c =
+pub append_word-requires : goal.append_word-requires
+append_word-requires g c =
+    let i = c.loop-i.invariant in
+    let fits = admits bits (length c.args.self.now.bytes.now) (bytes_of c.len-n.result) c.in_ok-admit.ensures in
+    record {
+      begins = omega (arith, i.0);
+      room = (omega (arith, i.0, i.2.1, fits, c.clear.ensures.stays), omega (arith, i.0, c.len-n.ensures, g.met.W.WordRows.within c.args.from));
+    }
+
+pub loop-i-preserved : goal.loop-i-preserved
+loop-i-preserved g c =
     let xs = g.W.WordRows.rows c.args.from in
-    let at = c.loop-at.at in
-    let w = c.word.result in
-    let i = c.loop-at.invariant in
-    let p = c.append_word.ensures in (
+    let at = 64 * c.loop-i.i in
+    let i = c.loop-i.invariant in
+    let p = c.append_word.ensures in
+    let next : at + 64 ≡ 64 * (c.loop-i.i + 1) = omega arith in (
       omega (arith, p.len, i.0),
-      omega (arith, i.1),
-      omega (arith, c.loop-at-test.true),
-      p.rows ∙ words_more xs (written c.loop-at.self) at w 64 c.word.ensures (omega arith) (omega (arith, c.len-n.ensures, c.loop-at-test.true)) i.3,
-      untouched-chain c.clear.new.self c.loop-at.self c.append_word.new.self (word_rows w 64) p.rows i.4 p.rest,
+      p.rows ∙ words_more xs (written c.loop-i.self) at c.word.result 64 c.word.ensures (omega arith) (omega (arith, c.len-n.ensures)) i.1 ∙ ap (λ k. take k xs) next,
+      untouched-chain c.clear.new.self c.loop-i.self c.append_word.new.self (word_rows c.word.result 64) p.rows i.2 p.rest,
     )
 
 pub append_rows-requires : goal.append_rows-requires
 append_rows-requires g c =
-    let i = c.loop-at.invariant in
-    let left = c.len-n.result - c.loop-at.at in
+    let i = c.loop-i.invariant in
+    let at = 64 * (c.len-n.result / 64) in
     let fits = admits bits (length c.args.self.now.bytes.now) (bytes_of c.len-n.result) c.in_ok-admit.ensures in
     record {
-      begins = omega (arith, i.0, i.1);
-      word = (omega arith, word_small (g.W.WordRows.rows c.args.from) c.loop-at.at c.word-2.result left c.word-2.ensures c.word-2.type_inv (omega arith) (omega (arith, c.len-n.ensures)));
-      room = (omega (arith, i.0, i.2, i.4.1, fits, c.clear.ensures.stays), omega (arith, i.0, i.2, c.len-n.ensures, g.W.WordRows.within c.args.from));
+      begins = omega (arith, i.0);
+      word = (omega arith, word_small (g.W.WordRows.rows c.args.from) at c.word-2.result (c.len-n.result % 64) c.word-2.ensures c.word-2.type_inv (omega arith) (omega (arith, c.len-n.ensures)));
+      room = (omega (arith, i.0, i.2.1, fits, c.clear.ensures.stays), omega (arith, i.0, c.len-n.ensures, g.met.W.WordRows.within c.args.from));
     }
 
 pub returns : goal.returns
 returns g c =
     let xs = g.W.WordRows.rows c.args.from in
     let s = c.args.self.now in
-    let at = c.loop-at.at in
+    let at = 64 * (c.len-n.result / 64) in
     let w = c.word-2.result in
-    let left = c.len-n.result - at in
-    let i = c.loop-at.invariant in
+    let left = c.len-n.result % 64 in
+    let i = c.loop-i.invariant in
     let p = c.append_rows.ensures in
     let empty = c.clear.new.self in
     let end = c.append_rows.new.self in
-    let all : written end ≡ xs = p.rows ∙ words_more xs (written c.loop-at.self) at w left c.word-2.ensures (omega arith) (omega (arith, c.len-n.ensures, i.2)) i.3 ∙ take_all (at + left) xs (omega (arith, c.len-n.ensures)) in
+    let here : 64 * c.loop-i.i ≡ at = omega arith in
+    let all : written end ≡ xs = p.rows ∙ words_more xs (written c.loop-i.self) at w left c.word-2.ensures (omega arith) (omega (arith, c.len-n.ensures)) (i.1 ∙ ap (λ k. take k xs) here) ∙ take_all (at + left) xs (omega (arith, c.len-n.ensures)) in
     record {
       verdict = c.in_ok-admit.ensures ∙ ap (λ n. admitted bits (length s.bytes.now) (bytes_of n)) c.len-n.ensures;
       written = all;
-      rest = untouched-chain s empty end xs (all ∙ ap (λ l. l ++ xs) (sym c.clear.ensures.none)) c.clear.ensures.rest (untouched-chain empty c.loop-at.self end (word_rows w left) p.rows i.4 p.rest);
+      rest = untouched-chain s empty end xs (all ∙ ap (λ l. l ++ xs) (sym c.clear.ensures.none)) c.clear.ensures.rest (untouched-chain empty c.loop-i.self end (word_rows w left) p.rows i.2 p.rest);
     }
