@@ -7,41 +7,25 @@ mod report;
 
 use crate::narrow::{narrow_masks, narrow_runs};
 use crate::report::print_report;
-use anyhow::anyhow;
+use anyhow::{Context, anyhow};
 use std::{env, fs};
 use tripfile::fault::TripFault;
 use tripfile::read::read_trip;
 
-// The fault of a trip file as the error that the program ends with.
-fn told(rt: &HostRuntime, path: &str, fault: TripFault) -> anyhow::Error {
-    match format!(in rt.alloc(); "{path}: {fault}") {
-        Ok(text) => anyhow!(text),
-        Err(_) => anyhow!("no memory"),
-    }
+// The fault of a trip file as the error that the program ends with: one line, which a context would make two of.
+fn told(path: &str, fault: TripFault) -> anyhow::Error {
+    anyhow!("{path}: {fault}")
 }
 
 // The trip file's text, the two ways through it, and what they say.
-fn run(rt: &HostRuntime) -> anyhow::Result<()> {
-    let mut args = env::args(rt)?;
-    let _ = args.next();
-    let Some(path) = args.next() else {
-        return Err(anyhow!("usage: trip FILE"));
-    };
-    let path = path.as_str();
-    let text = fs::read_to_string(rt, path)?;
-    let heap = rt.alloc();
-    let trip = match read_trip(heap, text.as_str()) {
-        Ok(trip) => trip,
-        Err(fault) => return Err(told(rt, path, fault)),
-    };
-    let (runs, masks) = match (narrow_runs(heap, &trip), narrow_masks(heap, &trip)) {
-        (Ok(runs), Ok(masks)) => (runs, masks),
-        (Err(fault), _) | (_, Err(fault)) => return Err(told(rt, path, fault)),
-    };
-    print_report(rt, &trip, &runs, &masks)?;
-    Ok(())
-}
-
 fn main(rt: HostRuntime) -> anyhow::Result<()> {
-    run(&rt)
+    let path = env::args(&rt)?.nth(1).context("usage: trip FILE")?;
+    let path = path.as_str();
+    let text = fs::read_to_string(&rt, path)?;
+    let heap = rt.alloc();
+    let trip = read_trip(heap, text.as_str()).map_err(|fault| told(path, fault))?;
+    let runs = narrow_runs(heap, &trip).map_err(|fault| told(path, fault))?;
+    let masks = narrow_masks(heap, &trip).map_err(|fault| told(path, fault))?;
+    print_report(&rt, &trip, &runs, &masks)?;
+    Ok(())
 }

@@ -27,7 +27,7 @@ use tripfile::fault::TripFault;
 use tripfile::trip::{Column, Trip};
 
 // What was found one way: rows kept after each filter, the runs left, the ranges of each column, and the form to read in.
-#[derive(Drop)]
+#[derive(PartialEq, Drop)]
 pub(crate) struct Found {
     pub first: usize,
     pub second: usize,

@@ -2,6 +2,7 @@
 use pages::page::{ByteRange, PageLocation};
 use rows::selector::RowSelector;
 use std::alloc::{AllocError, Global};
+use std::iter;
 use tripfile::trip::Column;
 
 // The rows from one up to another: '#' where kept, '.' where not.
@@ -25,28 +26,23 @@ pub(crate) fn rows_line(
 
 // The letter of a page, capital where it is fetched.
 fn letter(page: usize, fetched: bool) -> char {
-    let place = (page % 26) as u8;
+    let small = char::from(b'a' + (page % 26) as u8);
     if fetched {
-        (b'A' + place) as char
+        small.to_ascii_uppercase()
     } else {
-        (b'a' + place) as char
+        small
     }
 }
 
 fn is_fetched(page: &PageLocation, ranges: &[ByteRange]) -> bool {
-    for range in ranges {
-        if i64::try_from(range.start) == Ok(page.offset) {
-            return true;
-        }
-    }
-    false
+    ranges
+        .iter()
+        .any(|range| i64::try_from(range.start) == Ok(page.offset))
 }
 
-fn row_or(row: i64, other: usize) -> usize {
-    match usize::try_from(row) {
-        Ok(row) => row,
-        Err(_) => other,
-    }
+// The first row of a page, or another number where it is no row's.
+fn first_row_or(page: &PageLocation, other: usize) -> usize {
+    usize::try_from(page.first_row_index).unwrap_or(other)
 }
 
 // The rows from one up to another, each as its page's letter.
@@ -58,14 +54,15 @@ pub(crate) fn pages_line(
     to: usize,
 ) -> Result<String, AllocError> {
     let mut line = String::new(heap);
-    for (k, page) in column.pages.iter().enumerate() {
-        let mark = letter(k, is_fetched(page, ranges));
-        let first = row_or(page.first_row_index, to);
-        let end = match column.pages.get(k.saturating_add(1)) {
-            Some(next) => row_or(next.first_row_index, to),
-            None => to,
-        };
-        for _ in first.max(from)..end.min(to) {
+    let pages = column.pages.as_slice();
+    let ends = pages
+        .iter()
+        .skip(1)
+        .map(|next| first_row_or(next, to))
+        .chain(iter::once(to));
+    for ((number, page), end) in pages.iter().enumerate().zip(ends) {
+        let mark = letter(number, is_fetched(page, ranges));
+        for _ in first_row_or(page, to).max(from)..end.min(to) {
             line.push(mark)?;
         }
     }

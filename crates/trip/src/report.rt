@@ -10,22 +10,6 @@ use tripfile::trip::{Column, Trip};
 // Rows to a line of the picture.
 const WIDTH: usize = 64;
 
-// Whether both ways found the same.
-fn agree(a: &Found, b: &Found) -> bool {
-    if a.first != b.first || a.second != b.second || a.strategy != b.strategy {
-        return false;
-    }
-    if a.runs.as_slice() != b.runs.as_slice() || a.ranges.len() != b.ranges.len() {
-        return false;
-    }
-    for (x, y) in a.ranges.iter().zip(b.ranges.iter()) {
-        if x.as_slice() != y.as_slice() {
-            return false;
-        }
-    }
-    true
-}
-
 fn print_runs(rt: &HostRuntime, runs: &[RowSelector]) -> io::Result<()> {
     print!(rt; "runs:")?;
     for run in runs {
@@ -41,22 +25,19 @@ fn print_runs(rt: &HostRuntime, runs: &[RowSelector]) -> io::Result<()> {
 
 // The bytes of these ranges.
 fn bytes_in(ranges: &[ByteRange]) -> u64 {
-    let mut sum: u64 = 0;
-    for range in ranges {
-        sum = sum.saturating_add(range.end.saturating_sub(range.start));
-    }
-    sum
+    ranges
+        .iter()
+        .map(|range| range.end.saturating_sub(range.start))
+        .fold(0, u64::saturating_add)
 }
 
 // The bytes of all pages of a column.
 fn bytes_of(column: &Column) -> u64 {
-    let mut sum: u64 = 0;
-    for page in column.pages.iter() {
-        if let Ok(size) = u64::try_from(page.compressed_page_size) {
-            sum = sum.saturating_add(size);
-        }
-    }
-    sum
+    column
+        .pages
+        .iter()
+        .filter_map(|page| u64::try_from(page.compressed_page_size).ok())
+        .fold(0, u64::saturating_add)
 }
 
 fn print_column(rt: &HostRuntime, column: &Column, ranges: &[ByteRange]) -> io::Result<()> {
@@ -78,8 +59,7 @@ fn print_column(rt: &HostRuntime, column: &Column, ranges: &[ByteRange]) -> io::
 fn print_picture(rt: &HostRuntime, trip: &Trip, found: &Found) -> io::Result<()> {
     let total = trip.shots.len();
     let heap = rt.alloc();
-    for block in 0..total.div_ceil(WIDTH) {
-        let from = block * WIDTH;
+    for from in (0..total).step_by(WIDTH) {
         let to = total.min(from.saturating_add(WIDTH));
         let kept = rows_line(heap, found.runs.as_slice(), from, to)?;
         println!(rt; "{:>12} {kept}", from)?;
@@ -118,7 +98,7 @@ pub(crate) fn print_report(
     }
     println!(rt; "rows: # kept, . not; pages by letter, capital where fetched")?;
     print_picture(rt, trip, runs)?;
-    if agree(runs, masks) {
+    if *runs == *masks {
         println!(rt; "runs and mask agree")
     } else {
         println!(rt; "runs and mask DIFFER")
