@@ -1,8 +1,7 @@
 // Two selections made into one.
-ghost use Rattle.std.specs.Prelude.{◌≡◌, ◌&&◌, ◌||◌, ◌++◌, MatchResult};
-ghost use Rattle.refusals.specs.Refusals.{verdict};
+ghost use Rattle.std.specs.Prelude.{◌&&◌, ◌||◌, ◌++◌};
 ghost use Rattle.rows.specs.Rules.{and_then, combine};
-ghost use Rattle.runs.specs.Sinks.{placed, joins};
+ghost use Rattle.runs.specs.Sinks.{Writes, Delivers, joins};
 ghost use Rattle.algebra.specs.Verdicts.{narrows};
 ghost use Rattle.selections.specs.Forms.{selection_rows};
 
@@ -25,9 +24,7 @@ impl<'a> RowSelection<'a> {
         second: &RowSelection,
         out: &mut K,
     ) -> Result<(), SelectionFault>
-        ensures verdict { verdict result ≡ narrows K.RowSink.layer K.RowSink.cost (K.RowSink.capacity out.old) (selection_rows self.now) (selection_rows second.now) }
-        ensures written { MatchResult result (λ _. K.RowSink.rows out.new ≡ and_then (selection_rows self.now) (selection_rows second.now)) (λ _. out.new ≡ out.old) }
-        ensures rest { K.RowSink.keeps out.old out.new }
+        ensures { Writes K.sink out.old (narrows K.sink out.old (selection_rows self.now) (selection_rows second.now)) (and_then (selection_rows self.now) (selection_rows second.now)) result out.new }
     {
         and_then(*self, *second, out)
     }
@@ -39,14 +36,12 @@ impl<'a> RowSelection<'a> {
         policy: P,
         out: &mut K,
     ) -> Result<(), SelectionFault>
-        ensures verdict { verdict result ≡ placed K.RowSink.layer K.RowSink.cost (K.RowSink.capacity out.old) (combine P.Policy.rule (selection_rows self.now) (selection_rows other.now)) }
-        ensures written { MatchResult result (λ _. K.RowSink.rows out.new ≡ combine P.Policy.rule (selection_rows self.now) (selection_rows other.now)) (λ _. out.new ≡ out.old) }
-        ensures rest { K.RowSink.keeps out.old out.new }
+        ensures { Delivers K.sink out.old (combine P.rule (selection_rows self.now) (selection_rows other.now)) result out.new }
     {
-        if self.is_mask() && other.is_mask() {
-            return combine_masks(self.mask(), other.mask(), policy, out);
+        match (self.mask(), other.mask()) {
+            (Some(first), Some(second)) => combine_masks(first, second, policy, out),
+            _ => combine(*self, *other, policy, out),
         }
-        combine(*self, *other, policy, out)
     }
 
     // The rows that both select. Refused by 12.
@@ -55,9 +50,7 @@ impl<'a> RowSelection<'a> {
         other: &RowSelection,
         out: &mut K,
     ) -> Result<(), SelectionFault>
-        ensures verdict { verdict result ≡ placed K.RowSink.layer K.RowSink.cost (K.RowSink.capacity out.old) (combine (λ x y. x && y) (selection_rows self.now) (selection_rows other.now)) }
-        ensures written { MatchResult result (λ _. K.RowSink.rows out.new ≡ combine (λ x y. x && y) (selection_rows self.now) (selection_rows other.now)) (λ _. out.new ≡ out.old) }
-        ensures rest { K.RowSink.keeps out.old out.new }
+        ensures { Delivers K.sink out.old (combine (λ x y. x && y) (selection_rows self.now) (selection_rows other.now)) result out.new }
     {
         self.combine(other, And, out)
     }
@@ -68,9 +61,7 @@ impl<'a> RowSelection<'a> {
         other: &RowSelection,
         out: &mut K,
     ) -> Result<(), SelectionFault>
-        ensures verdict { verdict result ≡ placed K.RowSink.layer K.RowSink.cost (K.RowSink.capacity out.old) (combine (λ x y. x || y) (selection_rows self.now) (selection_rows other.now)) }
-        ensures written { MatchResult result (λ _. K.RowSink.rows out.new ≡ combine (λ x y. x || y) (selection_rows self.now) (selection_rows other.now)) (λ _. out.new ≡ out.old) }
-        ensures rest { K.RowSink.keeps out.old out.new }
+        ensures { Delivers K.sink out.old (combine (λ x y. x || y) (selection_rows self.now) (selection_rows other.now)) result out.new }
     {
         self.combine(other, Or, out)
     }
@@ -81,13 +72,11 @@ impl<'a> RowSelection<'a> {
         second: &RowSelection,
         out: &mut K,
     ) -> Result<(), SelectionFault>
-        ensures verdict { verdict result ≡ joins K.RowSink.layer K.RowSink.cost (K.RowSink.capacity out.old) (selection_rows self.now) (selection_rows second.now) }
-        ensures written { MatchResult result (λ _. K.RowSink.rows out.new ≡ selection_rows self.now ++ selection_rows second.now) (λ _. out.new ≡ out.old) }
-        ensures rest { K.RowSink.keeps out.old out.new }
+        ensures { Writes K.sink out.old (joins K.sink out.old (selection_rows self.now) (selection_rows second.now)) (selection_rows self.now ++ selection_rows second.now) result out.new }
     {
-        if self.is_mask() && second.is_mask() {
-            return join_masks(self.mask(), second.mask(), out);
+        match (self.mask(), second.mask()) {
+            (Some(first), Some(more)) => join_masks(first, more, out),
+            _ => join(*self, *second, out),
         }
-        join(*self, *second, out)
     }
 }

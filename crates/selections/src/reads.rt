@@ -47,10 +47,10 @@ impl<'a> RowSelection<'a> {
     pub fn equals(&self, other: &RowSelection) -> bool
         ensures { Decides result (selection_rows self.now ≡ selection_rows other.now) }
     {
-        if self.is_mask() && other.is_mask() {
-            return same_mask_rows(self.mask(), other.mask());
+        match (self.mask(), other.mask()) {
+            (Some(first), Some(second)) => same_mask_rows(first, second),
+            _ => same_rows(*self, *other),
         }
-        same_rows(*self, *other)
     }
 
     // The form in which it is better read, at a threshold.

@@ -20,21 +20,21 @@ pub struct TrimmedSelection<S> {
 
 impl<S: Trimming> Selection<S> {
     pub fn new(source: S) -> Selection<S>
-        ensures { rows_of S.RunSource.rows result ≡ S.RunSource.rows source }
+        ensures { rows_of S.rows result ≡ S.rows source }
     {
         Selection { source }
     }
 
     // A copy of its rows, for operations and requests.
     pub fn source(&self) -> S
-        ensures { S.RunSource.rows result ≡ rows_of S.RunSource.rows self.now }
+        ensures { S.rows result ≡ rows_of S.rows self.now }
     {
         self.source
     }
 
     // Without the skipped rows at its end.
     pub fn trim(self) -> TrimmedSelection<S>
-        ensures { trimmed_rows S.RunSource.rows result ≡ trimmed (rows_of S.RunSource.rows self) }
+        ensures { trimmed_rows S.rows result ≡ trimmed (rows_of S.rows self) }
     {
         let Selection { source } = self;
         TrimmedSelection {
@@ -46,14 +46,14 @@ impl<S: Trimming> Selection<S> {
 impl<S: Trimming> TrimmedSelection<S> {
     // A copy of its rows, for operations and requests.
     pub fn source(&self) -> S
-        ensures { S.RunSource.rows result ≡ trimmed_rows S.RunSource.rows self.now }
+        ensures { S.rows result ≡ trimmed_rows S.rows self.now }
     {
         self.source
     }
 
     // A selection like any other again.
     pub fn loosen(self) -> Selection<S>
-        ensures { rows_of S.RunSource.rows result ≡ trimmed_rows S.RunSource.rows self }
+        ensures { rows_of S.rows result ≡ trimmed_rows S.rows self }
     {
         let TrimmedSelection { source } = self;
         Selection { source }
