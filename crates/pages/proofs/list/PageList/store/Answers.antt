@@ -8,7 +8,7 @@ pub loop-page-preserved : goal.loop-page-preserved
 loop-page-preserved g c =
     let i = c.loop-page.invariant in
     let o = c.loop-page.out in
-    let p = c.if-not-push.ensures.pushed in
+    let p = c.in-Ok.ensures.pushed in
     let taken = c.in-Some.ensures.steps in
     let left = pages_left g.S.RunSource.rows c.next.new.self in (
       omega (arith, p.1, i.0, ap length taken),
