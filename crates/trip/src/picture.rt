@@ -14,6 +14,7 @@ pub(crate) fn rows_line(
 ) -> Result<String, AllocError> {
     let mut line = String::new(heap);
     let mut at: usize = 0;
+    // Each run is cut to these rows, which costs less than to step over every row before them.
     for run in runs {
         let end = at.saturating_add(run.row_count);
         for _ in at.max(from)..end.min(to) {
