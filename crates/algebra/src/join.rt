@@ -1,6 +1,6 @@
 // Two selections joined end to end.
 ghost use Rattle.std.specs.Prelude.{◌++◌};
-ghost use Rattle.runs.specs.Sinks.{Writes, joins};
+ghost use Rattle.runs.specs.Sinks.{JoinsInto};
 
 use refusals::fault::SelectionFault;
 use rows::limit::ROW_LIMIT;
@@ -34,7 +34,7 @@ pub fn join<A: CountedSource, B: CountedSource, K: RowSink>(
     second: B,
     out: &mut K,
 ) -> Result<(), SelectionFault>
-    ensures { Writes K.sink out.old (joins K.sink out.old (A.rows first) (B.rows second)) (A.rows first ++ B.rows second) result out.new }
+    ensures { JoinsInto K.sink out.old (A.rows first) (B.rows second) result out.new }
 {
     if ROW_LIMIT < first.rows_left() + second.rows_left() {
         return Err(SelectionFault::RowLimit(1));

@@ -1,8 +1,7 @@
 // The first rows of a selection, and the rest of it.
 ghost use Rattle.std.specs.Prelude.{◌≡◌, OnOk};
-ghost use Rattle.rows.specs.Rules.{split_front, split_rest};
 ghost use Rattle.rows.specs.Said.{Split};
-ghost use Rattle.runs.specs.Sinks.{Writes, splits};
+ghost use Rattle.runs.specs.Sinks.{SplitsInto};
 
 use crate::part::Part;
 use crate::rest::Rest;
@@ -20,8 +19,7 @@ pub fn split_off<S: RunSource, K: RowSink, L: RowSink>(
     front: &mut K,
     rest: &mut L,
 ) -> Result<(), SelectionFault>
-    ensures front { Writes K.sink front.old (splits K.sink front.old L.sink rest.old n (S.rows source)) (split_front n (S.rows source)) result front.new }
-    ensures rest { Writes L.sink rest.old (splits K.sink front.old L.sink rest.old n (S.rows source)) (split_rest n (S.rows source)) result rest.new }
+    ensures splits { SplitsInto K.sink front.old L.sink rest.old n (S.rows source) result front.new rest.new }
     ensures split { OnOk result (Split n (S.rows source) (K.sink.rows front.new) (L.sink.rows rest.new)) }
 {
     let first = Unaltered::new(Part::new(source, n));

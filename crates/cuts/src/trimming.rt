@@ -2,7 +2,7 @@
 ghost use Rattle.std.specs.Prelude.{◌≡◌};
 ghost use Rattle.rows.specs.Rules.{trimmed};
 
-use either::Either;
+use either::{Either, map_both};
 use runs::run_list::RunList;
 use runs::source::{CountedSource, RunSource};
 
@@ -20,9 +20,6 @@ impl<'a> Trimming for RunList<'a> {
 
 impl<A: Trimming, B: Trimming> Trimming for Either<A, B> {
     fn trimmed(&self) -> Either<A, B> {
-        match self {
-            Either::Left(source) => Either::Left(source.trimmed()),
-            Either::Right(source) => Either::Right(source.trimmed()),
-        }
+        map_both!(self, source => source.trimmed())
     }
 }

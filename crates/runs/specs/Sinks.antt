@@ -73,3 +73,12 @@ pub record Writes {S : Type 0} (k : Sink S) (s : S) (v : Verdict) (xs : List Boo
 -- the same of rows that are refused only where the sink is too small for them
 abbrev pub Delivers : {S : Type 0} → Sink S → S → List Bool → Result (Unit {0}) SelectionFault → S → Type 0
 Delivers k s xs r t = Writes k s (placed k s xs) xs r t
+
+-- the same of the rows ys after the rows xs
+abbrev pub JoinsInto : {S : Type 0} → Sink S → S → List Bool → List Bool → Result (Unit {0}) SelectionFault → S → Type 0
+JoinsInto k s xs ys r t = Writes k s (joins k s xs ys) (xs ++ ys) r t
+
+-- the first n of the rows xs in one sink, and the rows after them in another: both are written, or neither is
+pub record SplitsInto {S T : Type 0} (k : Sink S) (s : S) (l : Sink T) (t : T) (n : ℕ) (xs : List Bool) (r : Result (Unit {0}) SelectionFault) (s' : S) (t' : T) : Type 0 where
+  pub front : Writes k s (splits k s l t n xs) (split_front n xs) r s'
+  pub rest : Writes l t (splits k s l t n xs) (split_rest n xs) r t'

@@ -4,17 +4,14 @@ ghost use Rattle.either.specs.Either.{either};
 ghost use Rattle.runs.specs.Shown.{few-either};
 
 use crate::source::{CountedSource, RunSource};
-use either::Either;
+use either::{Either, for_both};
 use rows::selector::RowSelector;
 
 impl<A: RunSource, B: RunSource> RunSource for Either<A, B> {
     ghost rows = { either A.rows B.rows };
 
     fn next_run(&mut self) -> Option<RowSelector> {
-        match self {
-            Either::Left(source) => source.next_run(),
-            Either::Right(source) => source.next_run(),
-        }
+        for_both!(self, source => source.next_run())
     }
 
     ghost within = { few-either A.rows B.rows A.within B.within };
@@ -22,16 +19,10 @@ impl<A: RunSource, B: RunSource> RunSource for Either<A, B> {
 
 impl<A: CountedSource, B: CountedSource> CountedSource for Either<A, B> {
     fn rows_left(&self) -> usize {
-        match self {
-            Either::Left(source) => source.rows_left(),
-            Either::Right(source) => source.rows_left(),
-        }
+        for_both!(self, source => source.rows_left())
     }
 
     fn selected_left(&self) -> usize {
-        match self {
-            Either::Left(source) => source.selected_left(),
-            Either::Right(source) => source.selected_left(),
-        }
+        for_both!(self, source => source.selected_left())
     }
 }

@@ -1,7 +1,7 @@
 // Two selections made into one.
-ghost use Rattle.std.specs.Prelude.{◌&&◌, ◌||◌, ◌++◌};
+ghost use Rattle.std.specs.Prelude.{◌&&◌, ◌||◌};
 ghost use Rattle.rows.specs.Rules.{and_then, combine};
-ghost use Rattle.runs.specs.Sinks.{Writes, Delivers, joins};
+ghost use Rattle.runs.specs.Sinks.{Writes, Delivers, JoinsInto};
 ghost use Rattle.algebra.specs.Verdicts.{narrows};
 ghost use Rattle.selections.specs.Forms.{selection_rows};
 
@@ -72,7 +72,7 @@ impl<'a> RowSelection<'a> {
         second: &RowSelection,
         out: &mut K,
     ) -> Result<(), SelectionFault>
-        ensures { Writes K.sink out.old (joins K.sink out.old (selection_rows self.now) (selection_rows second.now)) (selection_rows self.now ++ selection_rows second.now) result out.new }
+        ensures { JoinsInto K.sink out.old (selection_rows self.now) (selection_rows second.now) result out.new }
     {
         match (self.mask(), second.mask()) {
             (Some(first), Some(more)) => join_masks(first, more, out),

@@ -1,6 +1,6 @@
 // A selection cut short, or written as it is.
-ghost use Rattle.rows.specs.Rules.{split_front, split_rest, offset, limit};
-ghost use Rattle.runs.specs.Sinks.{Writes, Delivers, splits};
+ghost use Rattle.rows.specs.Rules.{offset, limit};
+ghost use Rattle.runs.specs.Sinks.{Delivers, SplitsInto};
 ghost use Rattle.selections.specs.Forms.{selection_rows};
 
 use crate::form::RowSelection;
@@ -34,8 +34,7 @@ impl<'a> RowSelection<'a> {
         front: &mut K,
         rest: &mut L,
     ) -> Result<(), SelectionFault>
-        ensures front { Writes K.sink front.old (splits K.sink front.old L.sink rest.old n (selection_rows self.now)) (split_front n (selection_rows self.now)) result front.new }
-        ensures rest { Writes L.sink rest.old (splits K.sink front.old L.sink rest.old n (selection_rows self.now)) (split_rest n (selection_rows self.now)) result rest.new }
+        ensures { SplitsInto K.sink front.old L.sink rest.old n (selection_rows self.now) result front.new rest.new }
     {
         match self.mask() {
             Some(mask) => split_off_mask(mask, n, front, rest),

@@ -1,6 +1,5 @@
 // A mask's rows written after another's, word by word.
-ghost use Rattle.std.specs.Prelude.{◌++◌};
-ghost use Rattle.runs.specs.Sinks.{Writes, joins};
+ghost use Rattle.runs.specs.Sinks.{JoinsInto};
 ghost use Rattle.bits.specs.Masks.{rows as rows_of_mask};
 
 use crate::joined::Joined;
@@ -13,7 +12,7 @@ use runs::sink::RowSink;
 
 // The second's rows after the first's. Refused by 1 where they pass the row limit together, then by 12.
 pub fn join_masks<K: WordSink>(first: Mask, second: Mask, out: &mut K) -> Result<(), SelectionFault>
-    ensures { Writes K.sink out.old (joins K.sink out.old (rows_of_mask first.entry) (rows_of_mask second.entry)) (rows_of_mask first.entry ++ rows_of_mask second.entry) result out.new }
+    ensures { JoinsInto K.sink out.old (rows_of_mask first.entry) (rows_of_mask second.entry) result out.new }
 {
     if first.len() + second.len() > ROW_LIMIT {
         return Err(SelectionFault::RowLimit(1));

@@ -34,8 +34,10 @@ returns-in_err-fits g c =
     let p = err_from_is_err_and c.from_residual.result c.from_residual.ensures.1 in
     let told = first-told c.in_err-fits.field-0.0 _ _ (c.in_err-fits.ensures ∙ ap (placed k c.args.front.now) (c.new-first.ensures ∙ c.new.ensures)) in
     rw (p.1, p.2) (record {
-      front = record { verdict = told; written = refl; rest = g.met.K.RowSink.laws.still _ };
-      rest = record { verdict = told; written = refl; rest = g.met.L.RowSink.laws.still _ };
+      splits = record {
+        front = record { verdict = told; written = refl; rest = g.met.K.RowSink.laws.still _ };
+        rest = record { verdict = told; written = refl; rest = g.met.L.RowSink.laws.still _ };
+      };
       split = tt;
     })
 
@@ -48,8 +50,10 @@ returns-in_err-fits-2 g c =
     let two = c.in_err-fits-2.ensures ∙ ap (placed l c.args.rest.now) c.new-second.ensures in
     let told = second-told _ _ _ one two in
     rw (p.1, p.2) (record {
-      front = record { verdict = told; written = refl; rest = g.met.K.RowSink.laws.still _ };
-      rest = record { verdict = told; written = refl; rest = g.met.L.RowSink.laws.still _ };
+      splits = record {
+        front = record { verdict = told; written = refl; rest = g.met.K.RowSink.laws.still _ };
+        rest = record { verdict = told; written = refl; rest = g.met.L.RowSink.laws.still _ };
+      };
       split = tt;
     })
 
@@ -65,7 +69,9 @@ returns g c =
     let front = c.write.ensures.rows ∙ c.new-first.ensures ∙ c.new.ensures in
     let rest = c.write-2.ensures.rows ∙ c.new-second.ensures in
     record {
-      front = record { verdict = told; written = front; rest = c.write.ensures.rest };
-      rest = record { verdict = told; written = rest; rest = c.write-2.ensures.rest };
+      splits = record {
+        front = record { verdict = told; written = front; rest = c.write.ensures.rest };
+        rest = record { verdict = told; written = rest; rest = c.write-2.ensures.rest };
+      };
       split = subst (λ ys. Split n xs ys (l.rows c.write-2.new.out)) (sym front) (subst (Split n xs (split_front n xs)) (sym rest) (in_two n xs));
     }
