@@ -1,5 +1,5 @@
 // Making a mask, its parts, and the rows that it has.
-ghost use Rattle.std.specs.Prelude.{◌≡◌, ◌≤◌, length, take, drop, IfOk};
+ghost use Rattle.std.specs.Prelude.{◌≡◌, ◌≤◌, length, take, drop, IfOk, IsOk, ◌+◌, ◌*◌};
 ghost use Rattle.refusals.specs.Refusals.{verdict, bits_verdict};
 ghost use Rattle.rows.specs.Rows.{row_limit};
 ghost use Rattle.bits.specs.Bits.{mask_rows};
@@ -38,6 +38,7 @@ impl<'a> Mask<'a> {
     pub fn new(bytes: &'a [u8], offset: usize, len: usize) -> Result<Mask<'a>, SelectionFault>
         ensures verdict { verdict (answered result) ≡ mask_verdict bytes.now offset len }
         ensures rows { IfOk result (λ m. rows m ≡ mask_rows bytes.now offset len) }
+        ensures fits { len ≤ row_limit → offset + len ≤ 8 * length bytes.now → IsOk result }
     {
         Mask::check(bytes, offset, len)?;
         let near = &bytes[offset / 8..];
