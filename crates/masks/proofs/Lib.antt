@@ -1,4 +1,3 @@
 pub mod SpareLaws
 pub mod StoreLaws
 pub mod RunsLeft
-pub mod Fitting

@@ -5,21 +5,7 @@ use Rattle.std.proofs.lemmas.Bool.{lt-ltb, ltb-false, ltb-true, true≢false}
 use Rattle.rows.specs.Rows.{NotFirst}
 use Rattle.rows.specs.Chunks.{leading}
 use Rattle.bits.specs.Masks.{value_at, next_change}
-
--- rows by their leading stretch of the mark b
-leads : (b : Bool) (xs : List Bool) → xs ≡ replicate (leading b xs) b ++ drop (leading b xs) xs
-leads b [] = refl
-leads true (true ∷ xs) = ap (λ l. true ∷ l) (leads true xs)
-leads true (false ∷ xs) = refl
-leads false (false ∷ xs) = ap (λ l. false ∷ l) (leads false xs)
-leads false (true ∷ xs) = refl
-
-stops : (b : Bool) (xs : List Bool) → NotFirst b (drop (leading b xs) xs)
-stops b [] = tt
-stops true (true ∷ xs) = stops true xs
-stops true (false ∷ xs) = λ e. true≢false (sym e)
-stops false (false ∷ xs) = stops false xs
-stops false (true ∷ xs) = λ e. true≢false e
+use Rattle.bits.proofs.WalkLaws.{leads, stops}
 
 some-lead : (b : Bool) (xs : List Bool) → 0 < leading b (b ∷ xs)
 some-lead true xs = omega arith

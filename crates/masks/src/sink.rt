@@ -28,10 +28,7 @@ impl<'a> MaskPlace<'a> {
     pub fn mask(&self) -> Mask<'_>
         ensures { rows_of_mask result ≡ written self.now }
     {
-        let Ok(mask) = Mask::new(&*self.bytes, 0, self.len) else {
-            unreachable()
-        };
-        mask
+        Mask::new(&*self.bytes, 0, self.len).unwrap()
     }
 
     // Refused by 12 where so many bytes are more than there are.
