@@ -18,6 +18,7 @@ fn list<T: Item>(heap: Global, mut words: Words<'_>) -> Result<Vec<T>, WordError
     ensures { Reads vec_items result (T.Item.listed (left words.entry)) }
 {
     let mut found = Vec::new(heap);
+    // No `for`, since an item takes words of its own behind the first.
     while let Some(first) = words.next() {
         found.push(T::read(first, &mut words).ok_or(WordError::Malformed)?)?;
     }

@@ -24,6 +24,7 @@ impl fmt::Display for WordError {
 
 impl Error for WordError {}
 
+// The conversions are written out for `from_gives`, by which a contract knows what a `?` returns.
 impl From<AllocError> for WordError {
     ghost from_gives = { λ _ e. e ≡ NoMemory };
 
