@@ -34,7 +34,10 @@ fn a_place_is_a_dash_or_has_a_size(rt: HostRuntime) -> Result<(), Fail> {
     let Command { head, .. } = command(rt.alloc(), b"split 1 2 18446744073709551615 r 4 -")?;
     assert_eq!(rt;
         (head.get(2), head.get(3)),
-        (Some(&Arg::Number(usize::MAX)), Some(&Arg::Place(Place::Runs(4))))
+        (
+            Some(&Arg::Number(usize::MAX)),
+            Some(&Arg::Place(Place::Runs(4)))
+        )
     );
     assert_eq!(rt;
         (head.get(4), head.get(5)),
