@@ -2,7 +2,7 @@
 ghost use Rattle.std.specs.Prelude.{◌+◌, ◌*◌, ◌<◌, ◌≤◌, length};
 ghost use Rattle.rows.specs.Rows.{row_limit};
 
-// The rows are the `len` bits from bit `offset` of the first byte on; bits past them are no rows.
+// The rows are the `len` bits from bit `offset` of the first byte on; bits past them are no rows. A slice counts bytes, so the number of bits stands beside it.
 #[derive(Clone, Copy)]
 pub struct Mask<'a> {
     pub(crate) bytes: &'a [u8],

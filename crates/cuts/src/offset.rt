@@ -15,7 +15,7 @@ use runs::pieces::Pieces;
 use runs::sink::RowSink;
 use runs::source::{CountedSource, RunSource};
 
-// What is left of a source, with so many selected rows skipped instead.
+// What is left of a source, with so many selected rows skipped instead. Where `Limited` ends after as many, this goes on.
 #[derive(Clone, Copy)]
 pub struct Unselected<S> {
     rows: Held<S>,

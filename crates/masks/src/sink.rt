@@ -72,6 +72,7 @@ impl<'a> RowSink for MaskPlace<'a> {
         if self.bytes.len() < end.div_ceil(8) {
             return Err(Full);
         }
+        // Each turn appends as many rows as fit its byte or its word.
         while self.len < end {
             self.extend(end - self.len, !run.skip);
         }

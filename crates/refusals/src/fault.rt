@@ -48,6 +48,7 @@ pub enum ReaderFault {
     ValuesTooFew(usize),
 }
 
+// These are written out, since contracts name the fault that `?` makes, and a derived `From` has no contract.
 impl From<BitsFault> for SelectionFault {
     ghost from_gives = { λ b s. s ≡ Bits b };
 

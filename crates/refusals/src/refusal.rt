@@ -9,7 +9,7 @@ pub enum Layer {
     Reader,
 }
 
-// A refusal by its number, its place and its layer; `docs/RULES.md` has the table.
+// A refusal by its number, its place and its layer; `docs/RULES.md` has the table. The number is what scripts print and what callers in other languages are told; inside the library a refusal is a fault, which is an enum.
 #[derive(Clone, Copy, PartialEq, Eq, Debug)]
 pub struct Refusal {
     pub number: u8,

@@ -4,7 +4,7 @@ ghost use Rattle.rows.specs.Rows.{run_of, selected_in};
 
 use std::fmt;
 
-// A run of rows, all selected or all skipped.
+// A run of rows, all selected or all skipped. Its fields are those of the Rust crate's type, whose name it keeps.
 #[derive(Clone, Copy, PartialEq, Eq, Debug)]
 pub struct RowSelector {
     pub row_count: usize,

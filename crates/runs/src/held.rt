@@ -7,7 +7,7 @@ ghost use Rattle.runs.specs.Steps.{Ready};
 use crate::source::RunSource;
 use rows::selector::RowSelector;
 
-// A run of no rows stands for no run begun.
+// A run of no rows stands for no run begun; an Option of a run would have two ways to say so.
 #[derive(Clone, Copy)]
 pub struct Held<S> {
     pub source: S,

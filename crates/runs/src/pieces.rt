@@ -4,6 +4,7 @@ ghost use Rattle.runs.specs.Steps.{Piece};
 
 use rows::selector::RowSelector;
 
+// Nothing here bounds the rows: each operation has a reason of its own why they are within the row limit, which it gives where it delivers them.
 pub trait Pieces: Copy {
     ghost rows: { Self → List Bool };
 

@@ -5,7 +5,7 @@ ghost use Rattle.std.specs.Prelude.{◌≤◌, length};
 #[derive(Clone, Copy, PartialEq, Eq, Debug)]
 pub struct Full;
 
-// The first `len` of the slots hold the items.
+// The first `len` of the slots hold the items. The library allocates nothing, so the list is no `Vec`.
 #[derive(Drop)]
 pub struct Place<'a, T> {
     pub(crate) slots: &'a mut [T],

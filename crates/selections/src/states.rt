@@ -1,4 +1,4 @@
-// The states of a selection before it is read. Values of these types are moved, so that a state is left when the next is made.
+// The states of a selection before it is read, a type for each. Values of these types are moved, so that a state is left when the next is made.
 ghost use Rattle.std.specs.Prelude.{◌≡◌};
 ghost use Rattle.rows.specs.Rules.{trimmed};
 ghost use Rattle.selections.specs.States.{rows_of, trimmed_rows};
