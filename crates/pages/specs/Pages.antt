@@ -1,5 +1,5 @@
 -- Pages, the lists of them that are accepted, and the ones that hold a selected row.
-use Rattle.std.specs.Prelude.{◌≡◌, ℕ, suc, ◌+◌, ◌-◌, Bool, false, cond, ◌&&◌, ◌||◌, List, [], ◌∷◌, map, length, take, drop, pos, Some, None, Option, ◌==◌, int_le, int_lt, nat_lt, unsigned_abs}
+use Rattle.std.specs.Prelude.{◌≡◌, ℕ, suc, ◌+◌, ◌-◌, Bool, cond, ◌&&◌, List, [], ◌∷◌, map, length, take, drop, pos, Some, None, Option, ◌==◌, int_le, int_lt, nat_lt, unsigned_abs}
 use Rattle.rows.specs.Rows.{row_limit}
 use Rattle.pages.specs.declared.page.PageLocation.{PageLocation}
 use Rattle.rows.specs.declared.range.Span.{Span}

@@ -5,7 +5,7 @@ use lib.ListN.{length-replicate, replicate-append-replicate}
 use Rattle.std.proofs.lemmas.Bool.{and_from, lt-ltb, true≢false}
 use Rattle.std.proofs.lemmas.List.{length-take-le, length_push}
 use Rattle.rows.specs.declared.selector.RowSelector.{RowSelector}
-use Rattle.rows.specs.Rows.{same, row_limit, run_of, run_rows, selected_in, selected_count, canonical, count_runs}
+use Rattle.rows.specs.Rows.{same, run_of, run_rows, selected_in, selected_count, canonical, count_runs}
 use Rattle.rows.proofs.Counts.{selected-append, selected-run}
 use Rattle.rows.proofs.RunLaws.{canonical-parts}
 use Rattle.runs.specs.declared.counts.RowCounts.{RowCounts}

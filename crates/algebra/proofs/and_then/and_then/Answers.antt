@@ -1,4 +1,4 @@
-use Rattle.std.proofs.Common.{◌≡◌, length, sym, ap, ◌∙◌, subst, arith}
+use Rattle.std.proofs.Common.{◌≡◌, length, ap, arith}
 use Rattle.rows.specs.Rows.{selected_count}
 use Rattle.rows.specs.Said.{ByRank}
 use Rattle.rows.proofs.Rules.{length-and_then, by_rank}

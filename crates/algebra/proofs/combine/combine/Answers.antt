@@ -1,4 +1,4 @@
-use Rattle.std.proofs.Common.{length, sym, ap, ◌∙◌, subst, arith}
+use Rattle.std.proofs.Common.{length, ap, arith}
 use Rattle.rows.specs.Said.{RowByRow}
 use Rattle.rows.proofs.Rules.{row-by-row}
 use Rattle.runs.proofs.SinkLaws.{delivered-as, of-delivered}

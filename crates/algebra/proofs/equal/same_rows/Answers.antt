@@ -1,4 +1,4 @@
-use Rattle.std.proofs.Common.{◌≡◌, Some, not, sym, ap, ◌∙◌, subst, arith}
+use Rattle.std.proofs.Common.{Some, not, sym, ap, ◌∙◌, subst, arith}
 use Rattle.std.proofs.lemmas.Bool.{not-true, not-false}
 use Rattle.rows.proofs.Counts.{piece-length}
 use Rattle.rows.proofs.Stretches.{not-not}

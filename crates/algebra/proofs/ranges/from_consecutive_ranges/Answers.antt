@@ -1,4 +1,4 @@
-use Rattle.std.proofs.Common.{sym, ◌∙◌, subst, arith}
+use Rattle.std.proofs.Common.{sym, arith}
 use Rattle.rows.specs.Ranges.{InRanges}
 use Rattle.rows.proofs.RangeLaws.{in-ranges}
 use Rattle.runs.proofs.SinkLaws.{told-as, of-delivered}

@@ -1,4 +1,4 @@
-use Rattle.std.proofs.Common.{◌≡◌, ◌+◌, ◌-◌, ◌≤◌}
+use Rattle.std.proofs.Common.{◌≡◌, ◌+◌}
 use Rattle.rows.specs.Rows.{count_runs}
 use Rattle.algebra.proofs.strategy.count_runs.Given as goal
 

@@ -1,4 +1,4 @@
-use Rattle.std.proofs.Common.{length, sym, ap, ◌∙◌, subst, arith}
+use Rattle.std.proofs.Common.{length, sym, ap, ◌∙◌, arith}
 use Rattle.rows.specs.Said.{Offset}
 use Rattle.rows.proofs.Rules.{length-skip, offset-rows}
 use Rattle.cuts.proofs.Offsets.{offset-zero, offset-some, offset-none}

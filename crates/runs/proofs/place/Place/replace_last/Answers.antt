@@ -1,4 +1,4 @@
-use Rattle.std.proofs.Common.{◌<◌, ◌≤◌, length, refl, sym, arith, length-set}
+use Rattle.std.proofs.Common.{◌<◌, refl, sym, arith, length-set}
 use Rattle.std.proofs.lemmas.List.{drop-set-lt}
 use Rattle.runs.proofs.PlaceLaws.{last-replaced, not-replaced, some-last}
 use Rattle.runs.proofs.place.Place.replace_last.Goals as goal
