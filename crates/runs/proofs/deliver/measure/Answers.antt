@@ -11,15 +11,9 @@ shorter g c = piece-length _ (g.P.Pieces.rows c.piece.new.self) c.in-Some.run'.r
 fewer : (g : given.Over) (c : In-Some g) → runs_after c.loop-run.last (g.P.Pieces.rows c.loop-run.rest) ≡ begins c.loop-run.last (not c.in-Some.run'.skip) + runs_after (Some (not c.in-Some.run'.skip)) (g.P.Pieces.rows c.piece.new.self)
 fewer g c = piece-runs c.loop-run.last _ (g.P.Pieces.rows c.piece.new.self) c.in-Some.run'.row_count (not c.in-Some.run'.skip) c.in-Some.ensures.0 c.in-Some.ensures.1
 
-pub overflow_add-all : goal.overflow_add-all
-overflow_add-all g c = omega (arith, shorter g (goal.at.overflow_add-all g c).In-Some, c.loop-run.invariant.0, c.requires)
-
 pub overflow_add-runs : goal.overflow_add-runs
 overflow_add-runs g c =
     omega (arith, fewer g (goal.at.overflow_add-runs g c).In-Some, c.loop-run.invariant.1, c.fresh-runs.ensures, runs-le None (g.P.Pieces.rows c.args.from), c.requires)
-
-pub loop-run-smaller : goal.loop-run-smaller
-loop-run-smaller g c = omega (arith, shorter g (goal.at.loop-run-smaller g c).In-Some, c.in-Some.ensures.0)
 
 pub loop-run-preserved : goal.loop-run-preserved
 loop-run-preserved g c = let i = (goal.at.loop-run-preserved g c).In-Some in (omega (arith, shorter g i, c.loop-run.invariant.0), omega (arith, fewer g i, c.loop-run.invariant.1, c.fresh-runs.ensures))

@@ -1,8 +1,5 @@
-use Rattle.std.proofs.Common.{◌≡◌, ◌-◌, ◌<◌, false, List, [], ◌∷◌, ◌++◌, length, get_or, sym, ap, ◌∙◌, arith, rules}
-use Rattle.std.proofs.lemmas.List.{nil_from_length}
+use Rattle.std.proofs.Common.{◌≡◌, ◌-◌, ◌<◌, false, List, [], ◌∷◌, ◌++◌, length, get_or, ◌∙◌, arith, rules}
 use Rattle.rows.specs.declared.selector.RowSelector.{RowSelector}
-use Rattle.rows.specs.Rows.{run_rows}
-use Rattle.rows.specs.Rules.{trimmed}
 use Rattle.runs.specs.Places.{but_last}
 use Rattle.runs.proofs.PlaceLaws.{last-at, with-last}
 use Rattle.runs.proofs.TrimLaws.{front-canonical, front_length, front-count, front-trimmed, selected-trimmed}
@@ -13,11 +10,6 @@ last_run xs = get_or xs (length xs - 1) (record { row_count = 0; skip = false })
 
 cut : (xs : List RowSelector) → 0 < length xs → xs ≡ but_last xs ++ last_run xs ∷ []
 cut xs h = with-last xs (last_run xs) (last-at xs _ h)
-
-pub returns-in_default : goal.returns-in_default
-returns-in_default c =
-    let none = ap run_rows (nil_from_length c.args.self.runs.now (search rules)) in
-    none ∙ sym (ap trimmed none)
 
 pub returns-then-not-last : goal.returns-then-not-last
 returns-then-not-last c =

@@ -27,5 +27,5 @@ invariant_of-self-2 c =
       };
     }
 
-pub returns : goal.returns
-returns c = record { takes = rows-after (goal.at.returns c).After-selected; rest = c.push.ensures.rest }
+pub returns-clause-takes : goal.returns-clause-takes
+returns-clause-takes c = rows-after (goal.at.returns-clause-takes c).After-selected

@@ -44,5 +44,5 @@ invariant_of-self c =
       };
     }
 
-pub returns : goal.returns
-returns c = record { rows = rows-after (goal.at.returns c).After-selected; rest = c.replace_last.ensures.rest }
+pub returns-clause-rows : goal.returns-clause-rows
+returns-clause-rows c = rows-after (goal.at.returns-clause-rows c).After-selected

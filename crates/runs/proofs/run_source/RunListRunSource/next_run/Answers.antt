@@ -1,7 +1,5 @@
-use Rattle.std.proofs.Common.{◌≡◌, ◌-◌, ◌<◌, false, List, ◌∷◌, length, get_or, take, drop, ap, arith, rules}
-use Rattle.std.proofs.lemmas.List.{nil_from_length}
+use Rattle.std.proofs.Common.{◌≡◌, ◌-◌, ◌<◌, false, List, ◌∷◌, length, get_or, take, drop, arith, rules}
 use Rattle.rows.specs.declared.selector.RowSelector.{RowSelector}
-use Rattle.rows.specs.Rows.{run_rows}
 use Rattle.rows.proofs.RunLaws.{first_rest, rest-rows, rest-length, rest-selected, rest-canonical}
 use Rattle.runs.proofs.run_source.RunListRunSource.next_run.Goals as goal
 
@@ -13,16 +11,6 @@ tail xs = take (length xs - 1) (drop 1 xs)
 
 cut : (xs : List RowSelector) → 0 < length xs → xs ≡ head xs ∷ tail xs
 cut xs h = first_rest xs _ h
-
-pub returns-in_default : goal.returns-in_default
-returns-in_default c =
-    let none = ap run_rows (nil_from_length c.args.self.now.runs.now (search rules)) in (none, none)
-
-pub overflow_sub-self : goal.overflow_sub-self
-overflow_sub-self c =
-    let s = c.args.self.now in
-    let xs = s.runs.now in
-    omega (arith, s.list.counted, rest-length xs (head xs) (tail xs) (cut xs (search rules)))
 
 pub overflow_sub-self-2 : goal.overflow_sub-self-2
 overflow_sub-self-2 c =
