@@ -1,9 +1,7 @@
-use Rattle.std.proofs.Common.{Some, not, sym, ap, ◌∙◌, subst, arith}
+use Rattle.std.proofs.Common.{Some, sym, ◌∙◌, subst}
 use Rattle.std.proofs.lemmas.Bool.{not-true, not-false}
-use Rattle.rows.proofs.Counts.{piece-length}
-use Rattle.rows.proofs.Stretches.{not-not}
 use Rattle.runs.specs.Steps.{Next}
-use Rattle.algebra.proofs.Alike.{same-run, is-run, not-run, whole-from-rest, rest-from-whole, ended}
+use Rattle.algebra.proofs.Alike.{same-run, is-run, not-run, whole-from-rest, rest-from-whole}
 use Rattle.algebra.proofs.equal.same_rows.Goals as goal
 
 pub returns-then-ne : goal.returns-then-ne
@@ -11,9 +9,6 @@ returns-then-ne g c e =
     let r = c.in-Some.run' in
     let o = c.next_run-in-Some.result in
     not-run r o (not-true _ (sym c.ne.ensures ∙ c.if-ne.true)) (same-run r o _ _ (g.A.RunSource.rows c.next_run.new.self) (g.B.RunSource.rows c.next_run-in-Some.new.self) c.in-Some.ensures c.next_run-in-Some.ensures (c.loop-run.invariant.1 e))
-
-pub loop-run-smaller : goal.loop-run-smaller
-loop-run-smaller g c = omega (arith, piece-length _ (g.A.RunSource.rows c.next_run.new.self) c.in-Some.run'.row_count (not c.in-Some.run'.skip) c.in-Some.ensures.1, c.in-Some.ensures.0)
 
 pub loop-run-preserved : goal.loop-run-preserved
 loop-run-preserved g c =
@@ -23,9 +18,3 @@ loop-run-preserved g c =
     let a = c.in-Some.ensures in
     let b : Next (g.B.RunSource.rows c.loop-run.others) (Some r) ys = subst (λ o. Next (g.B.RunSource.rows c.loop-run.others) o ys) (is-run r c.next_run-in-Some.result (not-false _ (sym c.ne.ensures ∙ c.if-ne.false))) c.next_run-in-Some.ensures in
     (λ e. c.loop-run.invariant.0 (whole-from-rest r _ _ xs ys a b e), λ e. rest-from-whole r _ _ xs ys a b (c.loop-run.invariant.1 e))
-
-pub returns : goal.returns
-returns g c =
-    let inv = c.loop-run.invariant in
-    let none = c.in_default.ensures.0 in
-    ended c.next_run-2.result _ _ (g.B.RunSource.rows c.loop-run.others) _ c.is_none.result (sym (not-not _) ∙ ap not (sym c.is_none.ensures)) c.next_run-2.ensures (λ e. inv.0 (none ∙ sym e)) (λ e. sym (inv.1 e) ∙ none)

@@ -3,9 +3,6 @@ use Rattle.rows.specs.Rows.{count_runs}
 use Rattle.rows.proofs.Counts.{runs-whole}
 use Rattle.algebra.proofs.strategy.count_runs.Goals as goal
 
-pub returns-in_default : goal.returns-in_default
-returns-in_default g c = omega (arith, c.loop-runs.invariant, ap count_runs c.in_default.ensures.0)
-
 pub loop-runs-preserved : goal.loop-runs-preserved
 loop-runs-preserved g c =
     let run = c.in-Some.field-0 in

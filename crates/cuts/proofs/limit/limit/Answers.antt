@@ -12,9 +12,9 @@ deliver-requires g c =
     let zs = limit c.args.n xs in
     omega (arith, ap length c.new.ensures, ap length (limited c.args.n xs).front, length-take (length zs) xs, g.met.S.RunSource.within c.args.source)
 
-pub returns : goal.returns
-returns g c =
+pub returns-clause-limited : goal.returns-clause-limited
+returns-clause-limited g c =
     let k = g.K.RowSink.sink in
     let xs = g.S.RunSource.rows c.args.source in
     let done = delivered-as k c.new.ensures c.deliver.ensures in
-    record { delivers = done; limited = of-delivered k (Limited c.args.n xs) (limited c.args.n xs) done }
+    of-delivered k (Limited c.args.n xs) (limited c.args.n xs) done

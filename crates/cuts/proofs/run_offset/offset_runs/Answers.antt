@@ -2,8 +2,6 @@ use Rattle.std.proofs.Common.{◌≡◌, ◌+◌, ◌-◌, true, false, ◌++◌
 use Rattle.rows.specs.Rows.{run_rows}
 use Rattle.rows.specs.Rules.{skip_selected}
 use Rattle.rows.proofs.Rules.{length-skip}
-use Rattle.cuts.proofs.Offsets.{offset-zero, offset-some, offset-none}
-use Rattle.runs.proofs.SinkLaws.{delivered-as}
 use Rattle.cuts.proofs.run_offset.offset_runs.Given as given
 use Rattle.cuts.proofs.run_offset.offset_runs.Goals as goal
 use Rattle.cuts.proofs.run_offset.offset_runs.Goals.{After-new}
@@ -21,16 +19,3 @@ pub deliver-requires : goal.deliver-requires
 deliver-requires g c =
     let s = c.args.list in
     omega (arith, ap length (tail-rows g (goal.at.deliver-requires g c).After-new), length-skip c.args.n (run_rows s.runs.now), s.list.counted, s.list.within)
-
-pub returns-then-n-eq0 : goal.returns-then-n-eq0
-returns-then-n-eq0 g c = delivered-as g.K.RowSink.sink (sym (offset-zero c.args.n (run_rows c.args.list.runs.now) c.if-n-eq0.true)) c.convert.ensures
-
-pub returns-in_default : goal.returns-in_default
-returns-in_default g c =
-    let none = ap run_rows c.empty.ensures ∙ sym (offset-none c.args.n (run_rows c.args.list.runs.now) (omega arith) c.in_default.ensures) in
-    delivered-as g.K.RowSink.sink none c.convert-in_default.ensures
-
-pub returns : goal.returns
-returns g c =
-    let rows = tail-rows g (goal.at.returns g c).After-new ∙ sym (offset-some c.args.n (run_rows c.args.list.runs.now) c.in-Some.ensures.some) in
-    delivered-as g.K.RowSink.sink rows c.deliver.ensures

@@ -1,19 +1,7 @@
 use Rattle.std.proofs.Common.{◌/◌, ◌<◌, length, refl, arith, length-set}
 use Rattle.bits.proofs.Words.{rows_append}
-use Rattle.masks.proofs.SpareLaws.{spare_more, keeps-more}
+use Rattle.masks.proofs.SpareLaws.{keeps-more}
 use Rattle.masks.proofs.place.MaskPlace.append.Goals as goal
-
-pub invariant_of-self : goal.invariant_of-self
-invariant_of-self c =
-    let s = c.args.self.now in
-    let xs = s.bytes.now in
-    let v = c.topped-v.result in
-    let here : s.len / 8 < length xs = omega (arith, c.requires.some, c.requires.room.0) in
-    record {
-      inside = omega (arith, length-set xs (s.len / 8) v, c.requires.room.0);
-      spare = spare_more xs s.len c.args.m v here c.requires.byte c.topped-v.ensures.small;
-      few = c.requires.room.1;
-    }
 
 pub returns : goal.returns
 returns c =

@@ -1,25 +1,25 @@
 use Rattle.std.proofs.Common.{◌≡◌, ◌+◌, not, length, replicate, refl, arith}
 use Rattle.masks.specs.Written.{written}
-use Rattle.masks.specs.Shown.{untouched-same, untouched-chain}
+use Rattle.masks.specs.Shown.{untouched-chain}
 use Rattle.masks.proofs.SpareLaws.{mask-room, past-limit, past_bytes, longer, all_of, none_more}
 use Rattle.masks.proofs.sink.MaskPlaceRowSink.put.Goals as goal
 
-pub returns-then-n-eq0 : goal.returns-then-n-eq0
-returns-then-n-eq0 c =
+pub returns-then-n-eq0-clause-takes : goal.returns-then-n-eq0-clause-takes
+returns-then-n-eq0-clause-takes c =
     let s = c.args.self.now in
     let n = c.args.run.row_count in
     let b = not c.args.run.skip in
-    record { takes = (mask-room s.bytes.now (length s.bytes.now) s.len n b (omega (arith, s.few, c.if-n-eq0.true)) (omega (arith, s.inside, c.if-n-eq0.true)), none_more (written s) n b c.if-n-eq0.true); stays = refl; rest = untouched-same s }
+    (mask-room s.bytes.now (length s.bytes.now) s.len n b (omega (arith, s.few, c.if-n-eq0.true)) (omega (arith, s.inside, c.if-n-eq0.true)), none_more (written s) n b c.if-n-eq0.true)
 
-pub returns-then-self-n : goal.returns-then-self-n
-returns-then-self-n c =
+pub returns-then-self-n-clause-takes : goal.returns-then-self-n-clause-takes
+returns-then-self-n-clause-takes c =
     let s = c.args.self.now in
-    record { takes = (past-limit s.bytes.now _ s.len c.args.run.row_count (not c.args.run.skip) (omega (arith, s.few, c.if-self-n.true)), refl); stays = refl; rest = untouched-same s }
+    (past-limit s.bytes.now _ s.len c.args.run.row_count (not c.args.run.skip) (omega (arith, s.few, c.if-self-n.true)), refl)
 
-pub returns-then-self-div_ceil : goal.returns-then-self-div_ceil
-returns-then-self-div_ceil c =
+pub returns-then-self-div_ceil-clause-takes : goal.returns-then-self-div_ceil-clause-takes
+returns-then-self-div_ceil-clause-takes c =
     let s = c.args.self.now in
-    record { takes = (past_bytes s.bytes.now _ s.len c.args.run.row_count (not c.args.run.skip) (omega (arith, c.div_ceil.ensures, c.if-self-div_ceil.true)), refl); stays = refl; rest = untouched-same s }
+    (past_bytes s.bytes.now _ s.len c.args.run.row_count (not c.args.run.skip) (omega (arith, c.div_ceil.ensures, c.if-self-div_ceil.true)), refl)
 
 pub loop-self-preserved : goal.loop-self-preserved
 loop-self-preserved c =
@@ -35,16 +35,12 @@ loop-self-preserved c =
       untouched-chain s t u (replicate m (not c.args.run.skip)) p.rows.rows i.3 p.rows.rest,
     )
 
-pub returns : goal.returns
-returns c =
+pub returns-clause-takes : goal.returns-clause-takes
+returns-clause-takes c =
     let s = c.args.self.now in
     let t = c.loop-self.self in
     let i = c.loop-self.invariant in
     let n = c.args.run.row_count in
     let b = not c.args.run.skip in
     let all : t.len ≡ s.len + n = omega (arith, i.1, c.loop-self-test.false) in
-    record {
-      takes = (mask-room s.bytes.now (length s.bytes.now) s.len n b (omega (arith, s.few, c.if-self-n.false)) (omega (arith, c.div_ceil.ensures, c.if-self-div_ceil.false)), all_of (written s) _ b s.len n t.len all i.2);
-      stays = i.3.1;
-      rest = i.3;
-    }
+    (mask-room s.bytes.now (length s.bytes.now) s.len n b (omega (arith, s.few, c.if-self-n.false)) (omega (arith, c.div_ceil.ensures, c.if-self-div_ceil.false)), all_of (written s) _ b s.len n t.len all i.2)

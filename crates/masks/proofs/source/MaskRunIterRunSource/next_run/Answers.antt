@@ -2,14 +2,8 @@ use Rattle.std.proofs.Common.{◌≡◌, ◌-◌, ◌++◌, drop, replicate, sym
 use Rattle.rows.specs.Rows.{NotFirst}
 use Rattle.rows.proofs.Stretches.{not-not}
 use Rattle.bits.specs.Masks.{rows}
-use Rattle.masks.proofs.RunsLeft.{none_left, change, some-ahead, run-rows, run-stops}
+use Rattle.masks.proofs.RunsLeft.{change, some-ahead, run-rows, run-stops}
 use Rattle.masks.proofs.source.MaskRunIterRunSource.next_run.Goals as goal
-
-pub returns-in_err-set : goal.returns-in_err-set
-returns-in_err-set c =
-    let s = c.args.self.now in
-    let none = none_left (rows s.mask) s.at (sym c.in_err-set.ensures) in
-    rw c.from_residual.ensures (none, none)
 
 pub returns : goal.returns
 returns c =

@@ -15,15 +15,6 @@ loop-i-init g c =
     let s = c.clear.new.self in
     (omega (arith, ap length c.clear.ensures.none, length-rows (row_at s.bytes.now) 0 s.len), c.clear.ensures.none, (refl, refl, refl))
 
-pub append_word-requires : goal.append_word-requires
-append_word-requires g c =
-    let i = c.loop-i.invariant in
-    let fits = admits bits (length c.args.self.now.bytes.now) (bytes_of c.len-n.result) c.in_ok-admit.ensures in
-    record {
-      begins = omega (arith, i.0);
-      room = (omega (arith, i.0, i.2.1, fits, c.clear.ensures.stays), omega (arith, i.0, c.len-n.ensures, g.met.W.WordRows.within c.args.from));
-    }
-
 pub loop-i-preserved : goal.loop-i-preserved
 loop-i-preserved g c =
     let xs = g.W.WordRows.rows c.args.from in
@@ -36,16 +27,12 @@ loop-i-preserved g c =
       untouched-chain c.clear.new.self c.loop-i.self c.append_word.new.self (word_rows c.word.result 64) p.rows i.2 p.rest,
     )
 
-pub append_rows-requires : goal.append_rows-requires
-append_rows-requires g c =
+pub append_rows-requires-clause-word : goal.append_rows-requires-clause-word
+append_rows-requires-clause-word g c =
     let i = c.loop-i.invariant in
     let at = 64 * (c.len-n.result / 64) in
     let fits = admits bits (length c.args.self.now.bytes.now) (bytes_of c.len-n.result) c.in_ok-admit.ensures in
-    record {
-      begins = omega (arith, i.0);
-      word = (omega arith, word_small (g.W.WordRows.rows c.args.from) at c.word-2.result (c.len-n.result % 64) c.word-2.ensures c.word-2.type_inv (omega arith) (omega (arith, c.len-n.ensures)));
-      room = (omega (arith, i.0, i.2.1, fits, c.clear.ensures.stays), omega (arith, i.0, c.len-n.ensures, g.met.W.WordRows.within c.args.from));
-    }
+    (omega arith, word_small (g.W.WordRows.rows c.args.from) at c.word-2.result (c.len-n.result % 64) c.word-2.ensures c.word-2.type_inv (omega arith) (omega (arith, c.len-n.ensures)))
 
 pub returns : goal.returns
 returns g c =

@@ -1,14 +1,7 @@
 use Rattle.std.proofs.Common.{◌+◌, ◌%◌, eqb, ◌++◌, drop, replicate, sym, refl, ap, ◌∙◌, arith}
-use Rattle.std.proofs.lemmas.List.{drop_all}
 use Rattle.rows.proofs.Stretches.{not-not}
 use Rattle.words.proofs.WordLaws.{word-leads, some-lead}
 use Rattle.words.proofs.word_runs.WordRunsPieces.piece.Goals as goal
-
-pub returns-then-left-eq0 : goal.returns-then-left-eq0
-returns-then-left-eq0 g c =
-    let s = c.args.self.now in
-    let none = drop_all s.at (g.W.WordRows.rows s.from) (omega (arith, c.len.ensures, c.if-left-eq0.true, c.saturating_sub-left.ensures)) in
-    (none, none)
 
 pub returns : goal.returns
 returns g c =
