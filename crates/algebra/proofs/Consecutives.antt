@@ -1,7 +1,7 @@
 -- Consecutive ranges by their first one. Assumes nothing.
-use Rattle.std.proofs.Common.{◌≡◌, ℕ, suc, ◌+◌, ◌-◌, ◌<◌, Bool, true, false, cond, List, ◌∷◌, ◌++◌, length, get_or, drop, replicate, Some, Option, sym, ap, ◌∙◌, arith}
+use Rattle.std.proofs.Common.{◌≡◌, ℕ, suc, ◌+◌, ◌-◌, ◌<◌, Bool, true, false, cond, List, ◌∷◌, ◌++◌, length, get_or, drop, replicate, Some, Option, ap, ◌∙◌}
 use Rattle.std.proofs.lemmas.List.{drop_more}
-use Rattle.std.proofs.lemmas.Bool.{eq-eqb, ne_eqb}
+use Rattle.std.proofs.lemmas.Bool.{ne_eqb}
 use Rattle.rows.specs.Ranges.{RowRange, is_void, is_bad, bad_range, range_rows}
 
 -- ranges xs with the first range r
@@ -9,19 +9,12 @@ module _ (total p : ℕ) (xs : List RowRange) (r : RowRange) (rs : List RowRange
   abbrev more : List Bool
   more = replicate (r.start - p) false ++ (replicate (r.end - r.start) true ++ range_rows total r.end rs)
 
-  pub void-first : r.start ≡ r.end → range_rows total p xs ≡ range_rows total p rs
-  void-first v = ap (range_rows total p) e ∙ ap (λ b. cond b (range_rows total p rs) more) (eq-eqb r.start r.end v)
-
   module _ (v : r.start ≡ r.end → ⊥) where
     pub some_first : range_rows total p xs ≡ more
     some_first = ap (range_rows total p) e ∙ ap (λ b. cond b (range_rows total p rs) more) (ne_eqb r.start r.end v)
 
     pub hold-first : r.start - p ≡ 0 → range_rows total p xs ≡ replicate (r.end - r.start) true ++ range_rows total r.end rs
     hold-first z = some_first ∙ ap (λ k. replicate k false ++ (replicate (r.end - r.start) true ++ range_rows total r.end rs)) z
-
--- up to a range that starts later, rows are skipped
-pub skip_first : (total p : ℕ) (xs : List RowRange) (r : RowRange) (rs : List RowRange) (e : xs ≡ r ∷ rs) → (r.start ≡ r.end → ⊥) → range_rows total p xs ≡ replicate (r.start - p) false ++ range_rows total r.start xs
-skip_first total p xs r rs e v = some_first total p xs r rs e v ∙ sym (ap (λ l. replicate (r.start - p) false ++ l) (hold-first total r.start xs r rs e v (omega arith)))
 
 -- the first bad range, one range further
 module _ (total p : ℕ) (xs : List RowRange) (i : ℕ) (d : RowRange) (h : i < length xs) where
@@ -34,14 +27,5 @@ module _ (total p : ℕ) (xs : List RowRange) (i : ℕ) (d : RowRange) (h : i < 
   first : bad_range total p i (drop i xs) ≡ cond (is_void here) (bad_range total p (suc i) (drop (i + 1) xs)) judged
   first = ap (bad_range total p i) (drop_more xs i d h)
 
-  pub past-void : here.start ≡ here.end → bad_range total p i (drop i xs) ≡ bad_range total p (i + 1) (drop (i + 1) xs)
-  past-void v = first ∙ ap (λ b. cond b (bad_range total p (suc i) (drop (i + 1) xs)) judged) (eq-eqb _ _ v) ∙ ap (λ k. bad_range total p k (drop (i + 1) xs)) (omega arith)
-
   some : (here.start ≡ here.end → ⊥) → bad_range total p i (drop i xs) ≡ judged
   some v = first ∙ ap (λ b. cond b (bad_range total p (suc i) (drop (i + 1) xs)) judged) (ne_eqb _ _ v)
-
-  pub past-good : (here.start ≡ here.end → ⊥) → is_bad total p here ≡ false → bad_range total p i (drop i xs) ≡ bad_range total here.end (i + 1) (drop (i + 1) xs)
-  past-good v g = some v ∙ ap (λ b. cond b (Some i) (bad_range total here.end (suc i) (drop (i + 1) xs))) g ∙ ap (λ k. bad_range total here.end k (drop (i + 1) xs)) (omega arith)
-
-  pub at-bad : (here.start ≡ here.end → ⊥) → is_bad total p here ≡ true → bad_range total p i (drop i xs) ≡ Some i
-  at-bad v g = some v ∙ ap (λ b. cond b (Some i) (bad_range total here.end (suc i) (drop (i + 1) xs))) g

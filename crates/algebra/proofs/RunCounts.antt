@@ -1,6 +1,6 @@
 -- Runs counted beside a threshold. Assumes nothing.
-use Rattle.std.proofs.Common.{◌≡◌, ℕ, ◌*◌, ◌/◌, ◌<◌, ◌≤◌, Bool, true, false, cond, ◌||◌, eqb, ltb, List, [], ◌∷◌, length, sym, refl, ap, ◌∙◌, div-lt_iff_lt-mul, arith}
-use Rattle.std.proofs.lemmas.Bool.{lt-ltb, le-ltb, ne_eqb}
+use Rattle.std.proofs.Common.{◌≡◌, ℕ, ◌*◌, ◌<◌, ◌≤◌, Bool, true, false, cond, ◌||◌, eqb, ltb, List, [], ◌∷◌, length, sym, refl, ap, ◌∙◌, arith}
+use Rattle.std.proofs.lemmas.Bool.{le-ltb, ne_eqb}
 use Rattle.rows.specs.declared.strategy.RowSelectionStrategy.{RowSelectionStrategy}
 use Rattle.rows.specs.declared.strategy.RowSelectionStrategy.TheVariants.{Selectors, Mask}
 use Rattle.rows.specs.Rows.{count_runs}
@@ -13,17 +13,6 @@ some_runs (x ∷ xs) h = omega arith
 -- the strategy, by what the runs come to
 abbrev chosen : Bool → RowSelectionStrategy
 chosen b = cond b Mask Selectors
-
-or-true : (a : Bool) → (a || true) ≡ true
-or-true true = refl
-or-true false = refl
-
-pub no_rows : (t : ℕ) (xs : List Bool) → length xs ≡ 0 → Mask ≡ strategy t xs
-no_rows t [] e = refl
-no_rows t (x ∷ xs) e = absurd (omega arith)
-
-pub ragged : (t : ℕ) (xs : List Bool) → 0 < t → length xs / t < count_runs xs → Mask ≡ strategy t xs
-ragged t xs h k = sym (ap chosen (ap (λ b. eqb (count_runs xs) 0 || b) (lt-ltb _ _ ((div-lt_iff_lt-mul h).0 k)) ∙ or-true (eqb (count_runs xs) 0)))
 
 pub smooth : (t : ℕ) (xs : List Bool) → 0 < length xs → count_runs xs * t ≤ length xs → Selectors ≡ strategy t xs
 smooth t xs h k = sym (ap chosen (ap (λ b. b || ltb (length xs) (count_runs xs * t)) (not-zero (count_runs xs) (some_runs xs h)) ∙ le-ltb (length xs) (count_runs xs * t) k))

@@ -9,9 +9,6 @@ use Rattle.rows.specs.Rules.{skip_selected, offset}
 use Rattle.rows.proofs.Counts.{length_run, selected-run}
 use Rattle.rows.proofs.Stretches.{split-stretch, skip-skip, skip-take}
 
-pub offset-zero : (n : ℕ) (xs : List Bool) → n ≡ 0 → offset n xs ≡ xs
-offset-zero n xs e = ap (λ k. offset k xs) e
-
 pub offset-some : (n : ℕ) (xs : List Bool) → n < selected_count xs → offset n xs ≡ skip_selected n xs
 offset-some zero xs h = refl
 offset-some (suc n) xs h = ap (λ b. cond b (skip_selected (suc n) xs) []) (lt-ltb (suc n) (selected_count xs) h)

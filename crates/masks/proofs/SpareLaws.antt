@@ -1,18 +1,12 @@
 -- Laws of a mask that grows at its end. Assumes nothing.
-use Rattle.std.proofs.Common.{◌≡◌, ℕ, ◌+◌, ◌-◌, ◌/◌, ◌%◌, ◌^◌, ◌<◌, ◌≤◌, Bool, List, ◌++◌, length, drop, set, replicate, sym, ap, ◌∙◌, append_assoc, append-nil, arith, length-append}
+use Rattle.std.proofs.Common.{◌≡◌, ℕ, ◌+◌, ◌-◌, ◌/◌, ◌<◌, ◌≤◌, Bool, List, ◌++◌, length, drop, set, replicate, sym, ap, ◌∙◌, append_assoc, append-nil, arith, length-append}
 use lib.ListN.{length-replicate}
 use Rattle.rows.specs.Rows.{row_limit}
 use Rattle.runs.specs.Sinks.{Room}
 use Rattle.bits.specs.Bits.{row_at, mask_rows}
 use Rattle.bits.proofs.RowLaws.{length-rows}
-use Rattle.std.proofs.lemmas.List.{get_or-set_same, drop-set-lt, replicate-append-replicate}
-use Rattle.masks.specs.Spares.{bytes_of, Spare}
-
-pub spare_more : (xs : List ℕ) (q m v : ℕ) → q / 8 < length xs → q % 8 + m ≤ 8 → v < 2 ^ (q % 8 + m) → Spare (q + m) (set xs (q / 8) v)
-spare_more xs q m v l h small some =
-    let same : (q + m) / 8 ≡ q / 8 = omega arith in
-    let low : (q + m) % 8 ≡ q % 8 + m = omega arith in
-    rw (same, low, get_or-set_same xs (q / 8) v 0 l) small
+use Rattle.std.proofs.lemmas.List.{drop-set-lt, replicate-append-replicate}
+use Rattle.masks.specs.Spares.{bytes_of}
 
 pub keeps-more : (xs : List ℕ) (q m v : ℕ) → 0 < m → drop (bytes_of (q + m)) (set xs (q / 8) v) ≡ drop (bytes_of (q + m)) xs
 keeps-more xs q m v some = drop-set-lt (bytes_of (q + m)) xs (q / 8) v (omega arith)

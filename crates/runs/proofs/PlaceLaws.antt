@@ -1,16 +1,9 @@
 -- Laws of a list that grows over lent memory. Assumes nothing.
-use Rattle.std.proofs.Common.{◌≡◌, ℕ, zero, suc, ◌+◌, ◌-◌, ◌<◌, ◌≤◌, List, [], ◌∷◌, ◌++◌, length, get_or, take, set, Some, None, Option, sym, refl, ap, ◌∙◌, subst, arith}
+use Rattle.std.proofs.Common.{◌≡◌, ℕ, zero, suc, ◌-◌, ◌<◌, List, [], ◌∷◌, ◌++◌, length, get_or, take, Some, None, Option, sym, refl, ap, ◌∙◌, arith}
 use Rattle.std.specs.List.{slice_get}
-use Rattle.std.proofs.lemmas.List.{take_more_set, take-take, length-take-le}
+use Rattle.std.proofs.lemmas.List.{length-take-le}
 use Rattle.runs.specs.declared.place.Place.{Place}
 use Rattle.runs.specs.Places.{held, last_of, but_last, Replaced}
-
--- another last item
-pub last-replaced : {X : Type 0} (xs : List X) (n : ℕ) (x : X) → 0 < n → n ≤ length xs → take n (set xs (n - 1) x) ≡ but_last (take n xs) ++ x ∷ []
-last-replaced xs n x h k =
-    let e : n - 1 + 1 ≡ n = omega arith in
-    subst (λ j. take j (set xs (n - 1) x) ≡ take (n - 1) xs ++ x ∷ []) e (take_more_set xs (n - 1) x (omega arith))
-    ∙ ap (λ l. l ++ x ∷ []) (sym (ap (λ j. take (j - 1) (take n xs)) (length-take-le n xs k) ∙ take-take (n - 1) n xs (omega arith)))
 
 -- the last item, as the checker reads `[.., last]`
 pub last-at : {X : Type 0} (xs : List X) (d : X) → 0 < length xs → last_of xs ≡ Some (get_or xs (length xs - 1) d)

@@ -1,5 +1,5 @@
 -- Laws of a run list that grows at its end. Assumes nothing.
-use Rattle.std.proofs.Common.{◌≡◌, ℕ, ◌+◌, ◌<◌, ◌≤◌, Bool, true, false, not, List, [], ◌∷◌, ◌++◌, length, replicate, Some, None, sym, refl, ap, ◌∙◌, append_assoc, append-nil, arith, length-append}
+use Rattle.std.proofs.Common.{◌≡◌, ℕ, ◌+◌, ◌<◌, ◌≤◌, Bool, true, false, not, List, [], ◌∷◌, ◌++◌, length, replicate, sym, refl, ap, ◌∙◌, append_assoc, append-nil, arith, length-append}
 use mathlib.Core.Bool.{beq}
 use lib.ListN.{length-replicate, replicate-append-replicate}
 use Rattle.std.proofs.lemmas.Bool.{and_from, lt-ltb, true≢false}
@@ -11,7 +11,7 @@ use Rattle.rows.proofs.RunLaws.{canonical-parts}
 use Rattle.runs.specs.declared.counts.RowCounts.{RowCounts}
 use Rattle.runs.specs.declared.place.Place.{Place}
 use Rattle.runs.specs.Counted.{IsRunList}
-use Rattle.runs.specs.Places.{held, last_of}
+use Rattle.runs.specs.Places.{held}
 use Rattle.runs.specs.RunPlaces.{Apart}
 use Rattle.runs.specs.Sinks.{Room}
 use Rattle.runs.specs.Shown.{runs-canonical}
@@ -25,19 +25,6 @@ beq-is true true e = refl
 beq-is true false e = sym e
 beq-is false true e = e
 beq-is false false e = refl
-
-pub beq-not : (a b : Bool) → beq a b ≡ false → a ≡ b → ⊥
-beq-not true true e h = true≢false e
-beq-not true false e h = true≢false h
-beq-not false true e h = true≢false (sym h)
-beq-not false false e h = true≢false e
-
--- no last run, and one with the other mark
-pub apart_none : (ks : List RowSelector) (s : Bool) → last_of ks ≡ None → Apart ks s
-apart_none ks s e l h k = let z : ◌≡◌ {A = ℕ} 0 1 = cc in omega arith
-
-pub apart_some : (ks : List RowSelector) (s : Bool) (m : RowSelector) → last_of ks ≡ Some m → beq m.skip s ≡ false → Apart ks s
-apart_some ks s m e n l h k = let same : m ≡ l = cc in beq-not m.skip s n (ap (λ r. r.skip) same ∙ k)
 
 apart-same : (a b : Bool) → (a ≡ b → ⊥) → not (same b a) ≡ true
 apart-same true true h = absurd (h refl)

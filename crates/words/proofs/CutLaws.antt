@@ -1,6 +1,6 @@
 -- Laws of rows cut at a selected row, and of rows whose first ones are skipped. Assumes nothing.
-use Rattle.std.proofs.Common.{◌≡◌, ℕ, zero, suc, ◌+◌, ◌-◌, ◌<◌, ◌≤◌, Bool, true, false, cond, eqb, ◌⊎◌, List, [], ◌∷◌, length, Some, None, Option, sym, refl, ap, ◌∙◌, inl, inr, arith}
-use Rattle.std.proofs.lemmas.Bool.{cases_lt, lt-ltb, le-ltb, eqb-true, eqb-false}
+use Rattle.std.proofs.Common.{◌≡◌, ℕ, zero, suc, ◌+◌, ◌-◌, ◌<◌, ◌≤◌, Bool, true, false, cond, eqb, ◌⊎◌, List, [], ◌∷◌, length, Some, None, sym, refl, ap, ◌∙◌, inl, inr, arith}
+use Rattle.std.proofs.lemmas.Bool.{cases_lt, lt-ltb, le-ltb, eqb-false}
 use Rattle.rows.specs.Rows.{selected_count}
 use Rattle.rows.specs.Rules.{skip_selected, offset, keep_front, trimmed, nth_end}
 use Rattle.rows.specs.Said.{Selects}
@@ -20,13 +20,6 @@ last_some xs i e = go (eqb (length (trimmed xs)) 0) refl
         let f : Some i ≡ Some (length (trimmed xs) - 1) = e ∙ ap (λ b. cond b None (Some (length (trimmed xs) - 1))) h in
         let same : i ≡ length (trimmed xs) - 1 = cc in
         omega (arith, eqb-false (length (trimmed xs)) 0 h)
-
-pub last_none : (xs : List Bool) → ◌≡◌ {A = Option ℕ} None (last_selected xs) → length (trimmed xs) ≡ 0
-last_none xs e = go (eqb (length (trimmed xs)) 0) refl
-  where
-    go : (b : Bool) → eqb (length (trimmed xs)) 0 ≡ b → length (trimmed xs) ≡ 0
-    go true h = eqb-true (length (trimmed xs)) 0 h
-    go false h = absurd (let f : None ≡ Some (length (trimmed xs) - 1) = e ∙ ap (λ b. cond b None (Some (length (trimmed xs) - 1))) h in let z : ◌≡◌ {A = ℕ} 0 1 = cc in omega arith)
 
 -- ---- a selected row past the n-th
 

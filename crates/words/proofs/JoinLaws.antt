@@ -20,12 +20,6 @@ module _ (xs ys : List Bool) (at : ℕ) where
   after : (i : ℕ) → length xs ≤ i → Selects (xs ++ ys) i ≡ Selects ys (i - length xs)
   after i h = get_or-append_right xs ys (length xs) i false refl h
 
-  pub joined-second : (w : ℕ) → length xs ≤ at → Reads ys (at - length xs) w → Reads (xs ++ ys) at w
-  joined-second w h reads k l = reads k l ∙ ap (Selects ys) (let e : at - length xs + k ≡ at + k - length xs = omega arith in e) ∙ sym (after (at + k) (omega arith))
-
-  pub joined-first : (w : ℕ) → at + 64 ≤ length xs → Reads xs at w → Reads (xs ++ ys) at w
-  joined-first w h reads k l = reads k l ∙ sym (before (at + k) (omega arith))
-
   -- n rows of the first, and after them the second's
   pub joined-part : (r w v n : ℕ) → n ≡ length xs - at → at < length xs → Reads xs at w → Reads ys 0 v → ((k : ℕ) → k < n → bit_at r k ≡ bit_at w k) → ((k : ℕ) → n ≤ k → bit_at r k ≡ bit_at (v * 2 ^ n % 2 ^ 64) k) → Reads (xs ++ ys) at r
   joined-part r w v n e inside first second under over k l = go (cases_lt k n)
