@@ -8,10 +8,10 @@ use Rattle.rows.specs.declared.strategy.RowSelectionStrategy.TheVariants.{Select
 use Rattle.rows.specs.Rules.{and_then, combine, split_front, split_rest, offset, limit, trimmed, strategy}
 use Rattle.rows.specs.Chunks.{next_chunk, chunk_end}
 use Rattle.bits.specs.Bits.{mask_rows}
+use Rattle.runs.specs.Sinks.{Sink}
 use Rattle.algebra.specs.Verdicts.{narrows}
 use Rattle.pages.specs.declared.page.PageLocation.{PageLocation}
-use Rattle.pages.specs.Pages.{ByteRange}
-use Rattle.pages.specs.Pages.{scanned}
+use Rattle.pages.specs.Pages.{ByteRange, scanned}
 use Rattle.pages.specs.Verdicts.{scan_verdict}
 
 -- so many selected rows, and so many skipped ones
@@ -39,6 +39,10 @@ bytes a b = record { start = a; end = b }
 abbrev pub rows_of : ℕ → ℕ → ℕ → ℕ → MaskChunk
 rows_of a b c d = record { initial_skip = a; chunk_rows = b; selected_rows = c; mask_start = d }
 
+-- a sink of any kind, by all that a verdict depends on
+abbrev pub sink : Layer → (ℕ → ℕ → ℕ) → ℕ → Sink (Unit {0})
+sink l cost cap = record { rows = λ s. []; capacity = λ s. cap; cost = cost; layer = l; keeps = λ s t. s ≡ t }
+
 -- the answer of a call that takes it, and the position that follows
 abbrev pub chunk : ℕ → ℕ → ℕ → ℕ → Result (Option MaskChunk) Refusal
 chunk a b c d = Ok (Some (rows_of a b c d))
@@ -53,7 +57,7 @@ loaded = Some (plus 5 ++ (minus 1 ++ plus 2))
 pub record Worked : Type 0 where
   pub as_mask : mask_rows (220 ∷ []) 0 8 ≡ S
   pub narrowed : and_then S (plus 1 ++ (minus 1 ++ plus 3)) ≡ minus 2 ++ (plus 1 ++ (minus 1 ++ (plus 1 ++ (minus 1 ++ plus 2))))
-  pub lengths : (l : Layer) (cost : ℕ → ℕ → ℕ) (cap : ℕ) → (narrows l cost cap S (plus 4) ≡ refused 4 4 selection) × (narrows l cost cap S (plus 6) ≡ refused 5 5 selection)
+  pub lengths : (l : Layer) (cost : ℕ → ℕ → ℕ) (cap : ℕ) → (narrows (sink l cost cap) tt S (plus 4) ≡ refused 4 4 selection) × (narrows (sink l cost cap) tt S (plus 6) ≡ refused 5 5 selection)
   pub none_selected : and_then (minus 3) [] ≡ minus 3
   pub both : combine ◌&&◌ (plus 3 ++ minus 2) (minus 1 ++ plus 1) ≡ minus 1 ++ (plus 2 ++ minus 2)
   pub either : combine ◌||◌ (plus 3 ++ minus 2) (minus 1 ++ plus 1) ≡ plus 3 ++ minus 2
