@@ -1,7 +1,6 @@
 // What can be wrong with a trip file, and how it is told.
 use refusals::fault::SelectionFault;
-use std::alloc::{AllocError, AllocFailed};
-use std::fmt;
+use std::alloc::AllocError;
 use thiserror::Error;
 
 // What a line of the file has wrong.
@@ -30,52 +29,14 @@ pub enum Wrong {
 }
 
 // A fault of a whole trip: in a line, in the page list of a column, or for want of memory.
-#[derive(Clone, Copy)]
+#[derive(Clone, Copy, PartialEq, Eq, Debug, Error)]
 pub enum TripFault {
+    #[error("line {0}: {1}")]
     Line(usize, Wrong),
+    #[error("line {0}: the page list of this column is refused by {number} at page {place}", number = .1.refusal().number, place = .1.refusal().place)]
     Pages(usize, SelectionFault),
-    Refused(SelectionFault),
-    NoMemory,
-}
-
-impl From<AllocError> for TripFault {
-    fn from(_e: AllocError) -> TripFault {
-        TripFault::NoMemory
-    }
-}
-
-impl<T: Drop> From<AllocFailed<T>> for TripFault {
-    fn from(_e: AllocFailed<T>) -> TripFault {
-        TripFault::NoMemory
-    }
-}
-
-impl From<SelectionFault> for TripFault {
-    fn from(e: SelectionFault) -> TripFault {
-        TripFault::Refused(e)
-    }
-}
-
-impl fmt::Display for TripFault {
-    fn fmt<W: fmt::Write>(&self, f: &mut fmt::Formatter<W>) -> fmt::Result {
-        match *self {
-            TripFault::Line(line, wrong) => write!(f, "line {line}: {wrong}"),
-            TripFault::Pages(line, fault) => {
-                let refusal = fault.refusal();
-                let number = refusal.number;
-                let place = refusal.place;
-                write!(
-                    f,
-                    "line {line}: the page list of this column is refused by {number} at page {place}"
-                )
-            }
-            TripFault::Refused(fault) => {
-                let refusal = fault.refusal();
-                let number = refusal.number;
-                let place = refusal.place;
-                write!(f, "refused by {number} at {place}")
-            }
-            TripFault::NoMemory => f.write_str("no memory"),
-        }
-    }
+    #[error("refused by {number} at {place}", number = .0.refusal().number, place = .0.refusal().place)]
+    Refused(#[from] SelectionFault),
+    #[error("no memory")]
+    NoMemory(#[from(alloc)] AllocError),
 }
