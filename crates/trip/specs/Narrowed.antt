@@ -4,8 +4,7 @@ use Rattle.rows.specs.Rows.{selected_count, run_rows}
 use Rattle.rows.specs.Rules.{strategy}
 use Rattle.survey.specs.Filters.{passes, passes_both}
 use Rattle.std.specs.declared.alloc.Global.{Global}
-use Rattle.pages.specs.Pages.{ByteRange}
-use Rattle.pages.specs.Pages.{scanned}
+use Rattle.pages.specs.Pages.{ByteRange, scanned}
 use Rattle.tripfile.specs.declared.trip.Column.{Column}
 use Rattle.tripfile.specs.declared.trip.Trip.{Trip}
 use Rattle.trip.specs.declared.narrow.Found.{Found}

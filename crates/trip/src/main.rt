@@ -1,6 +1,7 @@
 // Narrows one survey trip by two filters, and names the pages to fetch, in runs and in a mask.
 #![tactic(auto)]
 
+mod form;
 mod narrow;
 mod picture;
 mod report;

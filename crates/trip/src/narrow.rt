@@ -4,10 +4,9 @@ ghost use Rattle.rows.specs.Rows.{run_rows};
 ghost use Rattle.survey.specs.Filters.{passes, picked};
 ghost use Rattle.trip.specs.Narrowed.{fetched, ranges_in, FoundRows, Narrowed};
 
+use crate::form::Form;
 use algebra::and_then::and_then;
 use algebra::strategy::auto_selection_strategy;
-use bits::mask::Mask;
-use masks::iter::MaskRunIter;
 use masks::place::MaskPlace;
 use pages::page::ByteRange;
 use pages::scan::scan_ranges;
@@ -32,6 +31,7 @@ pub(crate) struct Found {
     pub first: usize,
     pub second: usize,
     pub runs: Vec<RowSelector>,
+    // One list for each of the trip's columns, which are not held here too, since what is found is compared whole.
     pub ranges: Vec<Vec<ByteRange>>,
     pub strategy: RowSelectionStrategy,
 }
@@ -43,7 +43,7 @@ fn filter_into<K: RowSink>(
     shots: &[Shot],
     out: &mut K,
 ) -> Result<(), TripFault>
-    ensures { OnOk result (K.RowSink.rows out.new ≡ map (passes filter) shots.now) }
+    ensures { OnOk result (K.sink.rows out.new ≡ map (passes filter) shots.now) }
 {
     let raw = judge(heap, filter, shots)?;
     collect_runs(raw.as_slice(), out)?;
@@ -58,7 +58,7 @@ fn second_into<A: CountedSource, K: RowSink>(
     first: A,
     out: &mut K,
 ) -> Result<(), TripFault>
-    ensures { OnOk result (K.RowSink.rows out.new ≡ map (passes filter) (picked (A.RunSource.rows first) shots.now)) }
+    ensures { OnOk result (K.sink.rows out.new ≡ map (passes filter) (picked (A.rows first) shots.now)) }
 {
     let left = kept(heap, first, shots)?;
     filter_into(heap, filter, left.as_slice(), out)
@@ -70,14 +70,12 @@ fn runs_of<S: CountedSource>(
     source: S,
     most: usize,
 ) -> Result<Vec<RowSelector>, TripFault>
-    ensures { IfOk result (λ v. run_rows v.items ≡ S.RunSource.rows source) }
+    ensures { IfOk result (λ v. run_rows v.items ≡ S.rows source) }
 {
     let mut slots = vec![in heap; RowSelector::skip(0); most]?;
     let mut place = RunPlace::new(slots.as_mut_slice());
     convert(source, &mut place)?;
-    let mut runs = Vec::new(heap);
-    runs.extend_from_slice(place.list().runs())?;
-    Ok(runs)
+    Ok(Vec::from_slice(heap, place.list().runs())?)
 }
 
 // The byte ranges of a column's pages that hold a selected row.
@@ -86,16 +84,14 @@ fn column_ranges<S: CountedSource>(
     column: &Column,
     source: S,
 ) -> Result<Vec<ByteRange>, TripFault>
-    ensures { IfOk result (λ v. v.items ≡ fetched (S.RunSource.rows source) column.now) }
+    ensures { IfOk result (λ v. v.items ≡ fetched (S.rows source) column.now) }
 {
-    let mut ranges = vec![in heap; ByteRange { start: 0, end: 0 }; column.pages.len()]?;
-    match scan_ranges(source, column.pages.as_slice(), ranges.as_mut_slice()) {
-        Ok(n) => {
-            ranges.truncate(n);
-            Ok(ranges)
-        }
-        Err(fault) => Err(TripFault::Pages(column.line, fault)),
-    }
+    let pages = column.pages.as_slice();
+    let mut ranges = vec![in heap; ByteRange { start: 0, end: 0 }; pages.len()]?;
+    let scanned = scan_ranges(source, pages, ranges.as_mut_slice());
+    let n = scanned.map_err(|fault| TripFault::Pages(column.line, fault))?;
+    ranges.truncate(n);
+    Ok(ranges)
 }
 
 // The same of each column.
@@ -104,7 +100,7 @@ fn ranges_of<S: CountedSource>(
     columns: &[Column],
     source: S,
 ) -> Result<Vec<Vec<ByteRange>>, TripFault>
-    ensures { IfOk result (λ v. ranges_in v ≡ map (fetched (S.RunSource.rows source)) columns.now) }
+    ensures { IfOk result (λ v. ranges_in v ≡ map (fetched (S.rows source)) columns.now) }
 {
     let mut all = Vec::new(heap);
     for column in columns {
@@ -120,7 +116,7 @@ fn outcome<A: CountedSource, B: CountedSource>(
     first: A,
     both: B,
 ) -> Result<Found, TripFault>
-    ensures { IfOk result (λ f. FoundRows trip.now (A.RunSource.rows first) (B.RunSource.rows both) f) }
+    ensures { IfOk result (λ f. FoundRows trip.now (A.rows first) (B.rows both) f) }
 {
     let runs = runs_of(heap, both, trip.shots.len())?;
     let ranges = ranges_of(heap, trip.columns.as_slice(), both)?;
@@ -133,51 +129,55 @@ fn outcome<A: CountedSource, B: CountedSource>(
     })
 }
 
+// Both filters in one form: the places of the first's rows, of the second's and of both's.
+fn narrow<'a, K: Form<'a>>(
+    heap: Global,
+    trip: &Trip,
+    first: &'a mut K,
+    second: &'a mut K,
+    both: &'a mut K,
+) -> Result<Found, TripFault>
+    ensures { IfOk result (λ f. Narrowed trip.now f) }
+{
+    let shots = trip.shots.as_slice();
+    filter_into(heap, trip.first, shots, first)?;
+    let first = first.source();
+    second_into(heap, trip.second, shots, first, second)?;
+    let second = second.source();
+    and_then(first, second, both)?;
+    outcome(heap, trip, first, both.source())
+}
+
 // In runs.
 pub(crate) fn narrow_runs(heap: Global, trip: &Trip) -> Result<Found, TripFault>
     ensures { IfOk result (λ f. Narrowed trip.now f) }
 {
-    let shots = trip.shots.as_slice();
-    let mut slots = vec![in heap; RowSelector::skip(0); shots.len()]?;
-    let mut first = RunPlace::new(slots.as_mut_slice());
-    filter_into(heap, trip.first, shots, &mut first)?;
-    let mut more = vec![in heap; RowSelector::skip(0); shots.len()]?;
-    let mut second = RunPlace::new(more.as_mut_slice());
-    second_into(heap, trip.second, shots, first.list(), &mut second)?;
-    let mut last = vec![in heap; RowSelector::skip(0); shots.len()]?;
-    let mut both = RunPlace::new(last.as_mut_slice());
-    and_then(first.list(), second.list(), &mut both)?;
-    outcome(heap, trip, first.list(), both.list())
+    let most = trip.shots.len();
+    let mut first = vec![in heap; RowSelector::skip(0); most]?;
+    let mut second = vec![in heap; RowSelector::skip(0); most]?;
+    let mut both = vec![in heap; RowSelector::skip(0); most]?;
+    narrow(
+        heap,
+        trip,
+        &mut RunPlace::new(first.as_mut_slice()),
+        &mut RunPlace::new(second.as_mut_slice()),
+        &mut RunPlace::new(both.as_mut_slice()),
+    )
 }
 
 // In masks.
 pub(crate) fn narrow_masks(heap: Global, trip: &Trip) -> Result<Found, TripFault>
     ensures { IfOk result (λ f. Narrowed trip.now f) }
 {
-    let shots = trip.shots.as_slice();
-    let mut bytes = vec![in heap; 0u8; shots.len() / 8 + 1]?;
-    let mut first = MaskPlace::new(bytes.as_mut_slice());
-    filter_into(heap, trip.first, shots, &mut first)?;
-    let mut more = vec![in heap; 0u8; shots.len() / 8 + 1]?;
-    let mut second = MaskPlace::new(more.as_mut_slice());
-    second_into(
-        heap,
-        trip.second,
-        shots,
-        MaskRunIter::new(first.mask()),
-        &mut second,
-    )?;
-    let mut last = vec![in heap; 0u8; shots.len() / 8 + 1]?;
-    let mut both = MaskPlace::new(last.as_mut_slice());
-    and_then(
-        MaskRunIter::new(first.mask()),
-        MaskRunIter::new(second.mask()),
-        &mut both,
-    )?;
-    outcome(
+    let most = trip.shots.len().div_ceil(8);
+    let mut first = vec![in heap; 0u8; most]?;
+    let mut second = vec![in heap; 0u8; most]?;
+    let mut both = vec![in heap; 0u8; most]?;
+    narrow(
         heap,
         trip,
-        MaskRunIter::new(first.mask()),
-        MaskRunIter::new(both.mask()),
+        &mut MaskPlace::new(first.as_mut_slice()),
+        &mut MaskPlace::new(second.as_mut_slice()),
+        &mut MaskPlace::new(both.as_mut_slice()),
     )
 }

@@ -1,23 +1,23 @@
 // A picture in text of the rows that were kept and the pages that are fetched for them.
 use pages::page::{ByteRange, PageLocation};
+use rows::range::RowRange;
 use rows::selector::RowSelector;
 use std::alloc::{AllocError, Global};
 use std::iter;
 use tripfile::trip::Column;
 
-// The rows from one up to another: '#' where kept, '.' where not.
+// These rows: '#' where kept, '.' where not.
 pub(crate) fn rows_line(
     heap: Global,
     runs: &[RowSelector],
-    from: usize,
-    to: usize,
+    rows: RowRange,
 ) -> Result<String, AllocError> {
     let mut line = String::new(heap);
     let mut at: usize = 0;
     // Each run is cut to these rows, which costs less than to step over every row before them.
     for run in runs {
         let end = at.saturating_add(run.row_count);
-        for _ in at.max(from)..end.min(to) {
+        for _ in at.max(rows.start)..end.min(rows.end) {
             line.push(if run.skip { '.' } else { '#' })?;
         }
         at = end;
@@ -46,24 +46,23 @@ fn first_row_or(page: &PageLocation, other: usize) -> usize {
     usize::try_from(page.first_row_index).unwrap_or(other)
 }
 
-// The rows from one up to another, each as its page's letter.
+// These rows, each as its page's letter.
 pub(crate) fn pages_line(
     heap: Global,
     column: &Column,
     ranges: &[ByteRange],
-    from: usize,
-    to: usize,
+    rows: RowRange,
 ) -> Result<String, AllocError> {
     let mut line = String::new(heap);
     let pages = column.pages.as_slice();
     let ends = pages
         .iter()
         .skip(1)
-        .map(|next| first_row_or(next, to))
-        .chain(iter::once(to));
+        .map(|next| first_row_or(next, rows.end))
+        .chain(iter::once(rows.end));
     for ((number, page), end) in pages.iter().enumerate().zip(ends) {
         let mark = letter(number, is_fetched(page, ranges));
-        for _ in first_row_or(page, to).max(from)..end.min(to) {
+        for _ in first_row_or(page, rows.end).max(rows.start)..end.min(rows.end) {
             line.push(mark)?;
         }
     }

@@ -2,8 +2,8 @@
 use crate::narrow::Found;
 use crate::picture::{pages_line, rows_line};
 use pages::page::ByteRange;
+use rows::range::RowRange;
 use rows::selector::RowSelector;
-use rows::strategy::RowSelectionStrategy;
 use std::io;
 use tripfile::trip::{Column, Trip};
 
@@ -13,12 +13,7 @@ const WIDTH: usize = 64;
 fn print_runs(rt: &HostRuntime, runs: &[RowSelector]) -> io::Result<()> {
     print!(rt; "runs:")?;
     for run in runs {
-        let n = run.row_count;
-        if run.skip {
-            print!(rt; " -{n}")?;
-        } else {
-            print!(rt; " +{n}")?;
-        }
+        print!(rt; " {run}")?;
     }
     println!(rt; "")
 }
@@ -48,9 +43,7 @@ fn print_column(rt: &HostRuntime, column: &Column, ranges: &[ByteRange]) -> io::
     let of = bytes_of(column);
     print!(rt; "{name}: fetch {fetched} of {all} pages, {bytes} of {of} bytes:")?;
     for range in ranges {
-        let start = range.start;
-        let end = range.end;
-        print!(rt; " {start}..{end}")?;
+        print!(rt; " {range}")?;
     }
     println!(rt; "")
 }
@@ -59,12 +52,15 @@ fn print_column(rt: &HostRuntime, column: &Column, ranges: &[ByteRange]) -> io::
 fn print_picture(rt: &HostRuntime, trip: &Trip, found: &Found) -> io::Result<()> {
     let total = trip.shots.len();
     let heap = rt.alloc();
-    for from in (0..total).step_by(WIDTH) {
-        let to = total.min(from.saturating_add(WIDTH));
-        let kept = rows_line(heap, found.runs.as_slice(), from, to)?;
-        println!(rt; "{:>12} {kept}", from)?;
+    for start in (0..total).step_by(WIDTH) {
+        let rows = RowRange {
+            start,
+            end: total.min(start.saturating_add(WIDTH)),
+        };
+        let kept = rows_line(heap, found.runs.as_slice(), rows)?;
+        println!(rt; "{start:>12} {kept}")?;
         for (column, ranges) in trip.columns.iter().zip(found.ranges.iter()) {
-            let line = pages_line(heap, column, ranges.as_slice(), from, to)?;
+            let line = pages_line(heap, column, ranges.as_slice(), rows)?;
             let name = column.name.as_str();
             println!(rt; "{name:>12} {line}")?;
         }
@@ -87,12 +83,8 @@ pub(crate) fn print_report(
     println!(rt; "second filter: {second} of {first} rows kept")?;
     print_runs(rt, runs.runs.as_slice())?;
     let threshold = trip.threshold;
-    match runs.strategy {
-        RowSelectionStrategy::Selectors => println!(rt;
-            "strategy at threshold {threshold}: selectors"
-        )?,
-        RowSelectionStrategy::Mask => println!(rt; "strategy at threshold {threshold}: mask")?,
-    }
+    let strategy = runs.strategy;
+    println!(rt; "strategy at threshold {threshold}: {strategy}")?;
     for (column, ranges) in trip.columns.iter().zip(runs.ranges.iter()) {
         print_column(rt, column, ranges.as_slice())?;
     }
