@@ -45,14 +45,13 @@ fn a_filter_judges_each_shot_in_order(rt: HostRuntime) -> Result<(), Fail> {
         most: 99,
     };
     let runs = judge(rt.alloc(), legs, &[shot(2, 0), shot(0, 0), shot(3, 0)])?;
-    assert!(rt;
-        runs.as_slice()
-            == [
-                RowSelector::select(1),
-                RowSelector::skip(1),
-                RowSelector::select(1),
-            ]
-            .as_slice()
+    assert_eq!(rt;
+        runs.as_slice(),
+        &[
+            RowSelector::select(1),
+            RowSelector::skip(1),
+            RowSelector::select(1),
+        ][..]
     );
     Ok(())
 }
@@ -60,10 +59,9 @@ fn a_filter_judges_each_shot_in_order(rt: HostRuntime) -> Result<(), Fail> {
 #[test]
 fn the_shots_left_are_those_selected(rt: HostRuntime) -> Result<(), Fail> {
     let shots = [shot(1, 0), shot(2, 0), shot(3, 0), shot(4, 0), shot(5, 0)];
-    let (mask, _) = Mask::new(&[0x1a], 0, 5);
+    let mask = Mask::new(&[0x1a], 0, 5)?;
     let left = kept(rt.alloc(), MaskRunIter::new(mask), &shots)?;
-    assert!(rt; left.len() == 3);
-    assert_eq!(rt; (left[0].to, left[1].to, left[2].to), (2, 4, 5));
+    assert_eq!(rt; left.as_slice(), &[shot(2, 0), shot(4, 0), shot(5, 0)][..]);
     let none = kept(rt.alloc(), MaskRunIter::new(mask), &[])?;
     assert_eq!(rt; none.len(), 0);
     Ok(())
