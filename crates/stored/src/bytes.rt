@@ -1,31 +1,57 @@
 // A mask that owns its bytes.
-ghost use Rattle.std.specs.Prelude.{◌≡◌, cond, [], is_ok};
+ghost use Rattle.std.specs.Prelude.{◌≡◌, Ok, IfOk};
 ghost use Rattle.refusals.specs.Refusals.{verdict};
 ghost use Rattle.bits.specs.Bits.{mask_rows};
-ghost use Rattle.bits.specs.Masks.{rows as rows_of_mask, mask_verdict};
+ghost use Rattle.bits.specs.Masks.{rows as rows_of_mask, answered, mask_verdict};
 
 use bits::mask::Mask;
 use refusals::fault::SelectionFault;
+use std::alloc::{AllocError, Global};
 
-// The rows are the `len` bits from bit `offset` on, where the bytes have so many; else there are none.
+// The rows are the `len` bits from bit `offset` on, which the bytes have.
 #[derive(Drop)]
 pub struct StoredMask {
-    pub bytes: Vec<u8>,
-    pub offset: usize,
-    pub len: usize,
+    bytes: Vec<u8>,
+    offset: usize,
+    len: usize,
+    ghost sound: { mask_verdict bytes.items offset len ≡ Ok tt },
 }
 
 impl StoredMask {
-    // Whether the bytes have these rows; refused by 1 and 2.
-    pub fn check(&self) -> Result<(), SelectionFault>
-        ensures { verdict result ≡ mask_verdict self.now.bytes.items self.now.offset self.now.len }
+    // The mask of these rows; refused by 1 and 2.
+    pub fn new(bytes: Vec<u8>, offset: usize, len: usize) -> Result<StoredMask, SelectionFault>
+        ensures verdict { verdict (answered result) ≡ mask_verdict bytes.items offset len }
+        ensures rows { IfOk result (λ m. mask_rows m.bytes.items m.offset m.len ≡ mask_rows bytes.items offset len) }
     {
-        Mask::check(self.bytes.as_slice(), self.offset, self.len)
+        Mask::check(bytes.as_slice(), offset, len)?;
+        Ok(StoredMask { bytes, offset, len })
     }
 
     // The mask of these rows.
-    pub fn mask(&self) -> Mask<'_> {
-        let (mask, _) = Mask::new(self.bytes.as_slice(), self.offset, self.len);
+    pub fn mask(&self) -> Mask<'_>
+        ensures { rows_of_mask result ≡ mask_rows self.now.bytes.items self.now.offset self.now.len }
+    {
+        let Ok(mask) = Mask::new(self.bytes.as_slice(), self.offset, self.len) else {
+            unreachable()
+        };
         mask
+    }
+
+    // The bytes, with those that lie outside of the rows.
+    pub fn bytes(&self) -> &[u8]
+        ensures { result.now ≡ self.now.bytes.items }
+    {
+        self.bytes.as_slice()
+    }
+
+    // A copy of the same bytes.
+    pub fn copy(&self, heap: Global) -> Result<StoredMask, AllocError>
+        ensures { IfOk result (λ m. mask_rows m.bytes.items m.offset m.len ≡ mask_rows self.now.bytes.items self.now.offset self.now.len) }
+    {
+        Ok(StoredMask {
+            bytes: self.bytes.as_slice().to_vec(heap)?,
+            offset: self.offset,
+            len: self.len,
+        })
     }
 }

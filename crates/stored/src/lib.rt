@@ -3,8 +3,9 @@
 
 pub mod bytes;
 pub mod held;
-pub mod keep;
 pub mod operation;
 pub mod perform;
+pub mod room;
 pub mod split;
 pub mod stored_runs;
+pub mod trouble;

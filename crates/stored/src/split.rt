@@ -1,45 +1,64 @@
 // A selection split in two, each part with as much memory as it needs.
-use crate::bytes::StoredMask;
+ghost use Rattle.std.specs.Prelude.{◌≡◌, IfOk};
+ghost use Rattle.rows.specs.Rules.{split_front, split_rest};
+ghost use Rattle.selections.specs.Forms.{selection_rows};
+ghost use Rattle.stored.specs.Rows.{stored_rows};
+
 use crate::held::Stored;
-use crate::operation::Convert;
-use crate::perform::{Room, Trouble, bytes_needed, runs_needed};
-use crate::stored_runs::StoredRuns;
-use masks::place::MaskPlace;
-use rows::selector::RowSelector;
-use runs::run_place::RunPlace;
-use runs::sink::RowSink;
+use crate::operation::Operation;
+use crate::room::{Fill, Room, in_room};
+use crate::trouble::Trouble;
 use selections::form::RowSelection;
 use std::alloc::Global;
 use words::sink::WordSink;
 
-// The rest goes into room of its own once the first part has its place.
-fn split_rest<K: WordSink>(
+// The first n rows, which are written when the rest has its room.
+#[derive(Drop)]
+struct Front<'a> {
     heap: Global,
-    selection: RowSelection,
+    of: RowSelection<'a>,
     n: usize,
-    front: &mut K,
     rest: Room,
-) -> Result<Stored, Trouble> {
-    match rest {
-        Room::Runs(most) => {
-            let needed = runs_needed(Convert { of: selection })?;
-            let mut slots = vec![in heap; RowSelector::skip(0); needed.min(most)]?;
-            let mut place = RunPlace::new(slots.as_mut_slice());
-            selection.split_off(n, front, &mut place)?;
-            Ok(Stored::Runs(StoredRuns::copy_of(heap, place.list())?))
-        }
-        Room::Mask(most) => {
-            let needed = bytes_needed(Convert { of: selection })?;
-            let mut bytes = vec![in heap; 0u8; needed.min(most)]?;
-            let mut place = MaskPlace::new(bytes.as_mut_slice());
-            selection.split_off(n, front, &mut place)?;
-            let len = place.mask().len();
-            Ok(Stored::Mask(StoredMask {
-                bytes,
-                offset: 0,
-                len,
-            }))
-        }
+}
+
+// The rest, written together with the first part. It refers to the selection, since what is proved of a value with ghost fields beside a `&mut` is lost.
+#[derive(Drop)]
+struct Rest<'s, 'f, F> {
+    of: &'s RowSelection<'s>,
+    n: usize,
+    front: &'f mut F,
+}
+
+impl<'s, 'f, F: WordSink> Rest<'s, 'f, F> {
+    fn new(of: &'s RowSelection<'s>, n: usize, front: &'f mut F) -> Rest<'s, 'f, F>
+        ensures of { (result.of.now ≡ of.now) × (result.n ≡ n) }
+        ensures front { (result.front.ghost_name ≡ front.entry.ghost_name) × (result.front.now ≡ front.old) }
+    {
+        Rest { of, n, front }
+    }
+}
+
+impl<'a> Fill for Front<'a> {
+    type Told = Stored;
+
+    ghost filled = { λ f xs s _. (xs ≡ split_front f.n (selection_rows f.of)) × (stored_rows s ≡ split_rest f.n (selection_rows f.of)) };
+
+    fn fill<K: WordSink>(&mut self, out: &mut K) -> Result<Stored, Trouble> {
+        let of = self.of;
+        let mut rest = Rest::new(&of, self.n, out);
+        let (stored, ()) = in_room(self.heap, &Operation::Convert(of), self.rest, &mut rest)?;
+        Ok(stored)
+    }
+}
+
+impl<'s, 'f, F: WordSink> Fill for Rest<'s, 'f, F> {
+    type Told = ();
+
+    ghost filled = { λ r ys _ t. (ys ≡ split_rest r.n (selection_rows r.of.now)) × (F.sink.rows t.front.now ≡ split_front r.n (selection_rows r.of.now)) × F.sink.keeps r.front.now t.front.now × (t.front.ghost_name ≡ r.front.ghost_name) };
+
+    fn fill<K: WordSink>(&mut self, out: &mut K) -> Result<(), Trouble> {
+        self.of.split_off(self.n, &mut *self.front, out)?;
+        Ok(())
     }
 }
 
@@ -50,32 +69,19 @@ pub fn split_stored(
     n: usize,
     front: Room,
     rest: Room,
-) -> Result<(Stored, Stored), Trouble> {
-    match front {
-        Room::Runs(most) => {
-            let needed = runs_needed(Convert { of: selection })?;
-            let mut slots = vec![in heap; RowSelector::skip(0); needed.min(most)]?;
-            let mut place = RunPlace::new(slots.as_mut_slice());
-            let second = split_rest(heap, selection, n, &mut place, rest)?;
-            Ok((
-                Stored::Runs(StoredRuns::copy_of(heap, place.list())?),
-                second,
-            ))
-        }
-        Room::Mask(most) => {
-            let needed = bytes_needed(Convert { of: selection })?;
-            let mut bytes = vec![in heap; 0u8; needed.min(most)]?;
-            let mut place = MaskPlace::new(bytes.as_mut_slice());
-            let second = split_rest(heap, selection, n, &mut place, rest)?;
-            let len = place.mask().len();
-            Ok((
-                Stored::Mask(StoredMask {
-                    bytes,
-                    offset: 0,
-                    len,
-                }),
-                second,
-            ))
-        }
-    }
+) -> Result<(Stored, Stored), Trouble>
+    ensures front { IfOk result (λ t. stored_rows t.0 ≡ split_front n (selection_rows selection.entry)) }
+    ensures rest { IfOk result (λ t. stored_rows t.1 ≡ split_rest n (selection_rows selection.entry)) }
+{
+    in_room(
+        heap,
+        &Operation::Convert(selection),
+        front,
+        &mut Front {
+            heap,
+            of: selection,
+            n,
+            rest,
+        },
+    )
 }

@@ -1,0 +1,112 @@
+// Memory for results: as much as they need, up to a bound.
+ghost use Rattle.std.specs.Prelude.{◌≡◌, Bool, List, Ok, IfOk};
+ghost use Rattle.bits.specs.Bits.{mask_rows};
+ghost use Rattle.bits.specs.Masks.{mask_verdict};
+ghost use Rattle.stored.specs.Rows.{rows_of_runs, rows_of_mask, stored_rows};
+
+use crate::bytes::StoredMask;
+use crate::held::Stored;
+use crate::operation::Operation;
+use crate::stored_runs::StoredRuns;
+use crate::trouble::Trouble;
+use masks::place::MaskPlace;
+use refusals::fault::{BitsFault, SelectionFault};
+use rows::selector::RowSelector;
+use runs::run_place::RunPlace;
+use std::alloc::Global;
+use words::sink::WordSink;
+
+// A place for a result: of at most so many runs, or of at most so many bytes.
+#[derive(Clone, Copy, PartialEq, Eq, Debug)]
+pub enum Room {
+    Runs(usize),
+    Mask(usize),
+}
+
+// What fills a sink of either form, and what it tells besides. A closure would have to be generic over the sink.
+pub(crate) trait Fill {
+    type Told: Drop;
+
+    // what is told where these rows were written
+    ghost filled: { Self → List Bool → Self.Told → Self → Type 0 };
+
+    fn fill<K: WordSink>(&mut self, out: &mut K) -> Result<Self::Told, Trouble>
+        ensures rows { IfOk result (λ t. filled self.old (K.sink.rows out.new) t self.new) }
+        ensures rest { IfOk result (λ _. K.sink.keeps out.old out.new) };
+}
+
+// What the result of an operation needs in the form of an empty sink.
+fn needed<K: WordSink>(of: &Operation<'_>, empty: &mut K) -> Result<usize, SelectionFault> {
+    match of.write(empty) {
+        Ok(()) => Ok(0),
+        Err(SelectionFault::PlaceTooSmall(n) | SelectionFault::Bits(BitsFault::BytesTooFew(n))) => {
+            Ok(n)
+        }
+        Err(fault) => Err(fault),
+    }
+}
+
+// A job's rows as runs, in a place of at most so many, and no more than an operation needs.
+pub(crate) fn in_runs<J: Fill>(
+    heap: Global,
+    of: &Operation<'_>,
+    most: usize,
+    job: &mut J,
+) -> Result<(StoredRuns, J::Told), Trouble>
+    ensures { IfOk result (λ t. J.filled job.old (rows_of_runs t.0) t.1 job.new) }
+{
+    let needed = needed(of, &mut RunPlace::new(&mut []))?;
+    let mut slots = vec![in heap; RowSelector::skip(0); needed.min(most)]?;
+    let mut place = RunPlace::new(slots.as_mut_slice());
+    let told = job.fill(&mut place)?;
+    Ok((StoredRuns::copy_of(heap, place.list())?, told))
+}
+
+// A job's rows from bit 0 of the bytes on; how many they are, and what it tells.
+fn fill_bytes<J: Fill>(bytes: &mut [u8], job: &mut J) -> Result<(usize, J::Told), Trouble>
+    ensures rows { IfOk result (λ t. J.filled job.old (mask_rows bytes.new 0 t.0) t.1 job.new) }
+    ensures sound { IfOk result (λ t. mask_verdict bytes.new 0 t.0 ≡ Ok tt) }
+{
+    let mut place = MaskPlace::new(bytes);
+    let told = job.fill(&mut place)?;
+    Ok((place.mask().len(), told))
+}
+
+// A job's rows as a mask, in a place of at most so many bytes, and no more than an operation needs.
+pub(crate) fn in_mask<J: Fill>(
+    heap: Global,
+    of: &Operation<'_>,
+    most: usize,
+    job: &mut J,
+) -> Result<(StoredMask, J::Told), Trouble>
+    ensures { IfOk result (λ t. J.filled job.old (rows_of_mask t.0) t.1 job.new) }
+{
+    let needed = needed(of, &mut MaskPlace::new(&mut []))?;
+    let mut bytes = vec![in heap; 0u8; needed.min(most)]?;
+    let (len, told) = fill_bytes(bytes.as_mut_slice(), job)?;
+    let Ok(mask) = StoredMask::new(bytes, 0, len) else {
+        unreachable()
+    };
+    Ok((mask, told))
+}
+
+// A job's rows in a place, of which it takes no more than an operation needs.
+pub(crate) fn in_room<J: Fill>(
+    heap: Global,
+    of: &Operation<'_>,
+    room: Room,
+    job: &mut J,
+) -> Result<(Stored, J::Told), Trouble>
+    ensures { IfOk result (λ t. J.filled job.old (stored_rows t.0) t.1 job.new) }
+{
+    match room {
+        Room::Runs(most) => {
+            let (runs, told) = in_runs(heap, of, most, job)?;
+            Ok((Stored::Runs(runs), told))
+        }
+        Room::Mask(most) => {
+            let (mask, told) = in_mask(heap, of, most, job)?;
+            Ok((Stored::Mask(mask), told))
+        }
+    }
+}
