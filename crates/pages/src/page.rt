@@ -1,6 +1,5 @@
 // Pages as a column's offset index lists them, and the ranges that are told of them.
 pub use rows::range::RowRange;
-
 use rows::range::Span;
 
 // A page: where its bytes start, how many there are, and the number of its first row.
