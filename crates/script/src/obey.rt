@@ -1,68 +1,43 @@
-// Which part of the program carries a command out.
-use crate::answer::{Outcome, Stop};
-use crate::fill::{fill_mask, fill_runs};
-use crate::make::{make_mask, make_ranges, make_runs};
-use crate::page_ranges::{tell_page_rows, tell_scan};
-use crate::slots::Slots;
-use crate::tell::tell;
-use crate::write::{copy, cut, pair, split};
-use scripts::command::{Arg, Command, Place, Verb};
-use std::alloc::Global;
+// The commands, and what carries each of them out.
+use crate::args::Args;
+use crate::fill::{mask_drawn, runs_drawn};
+use crate::make::{mask_of, ranges_of, runs_of};
+use crate::no::No;
+use crate::session::Session;
+use scripts::command::Verb;
 use std::io::Write;
-use stored::perform::Room;
+use stored::operation::Operation;
 
-// The slot, the number or the place at an argument's place.
-pub(crate) fn slot(command: &Command, i: usize) -> Option<usize> {
-    match command.head.get(i) {
-        Some(Arg::Slot(n)) => Some(*n),
-        _ => None,
-    }
-}
-
-pub(crate) fn number(command: &Command, i: usize) -> Option<usize> {
-    match command.head.get(i) {
-        Some(Arg::Number(n)) => Some(*n),
-        _ => None,
-    }
-}
-
-// The room that a place gives; the natural one has the form asked for, and no bound.
-pub(crate) fn room(command: &Command, i: usize, is_mask: bool) -> Option<Room> {
-    match command.head.get(i) {
-        Some(Arg::Place(Place::Runs(most))) => Some(Room::Runs(*most)),
-        Some(Arg::Place(Place::Mask(most))) => Some(Room::Mask(*most)),
-        Some(Arg::Place(Place::Natural)) => Some(if is_mask {
-            Room::Mask(usize::MAX)
-        } else {
-            Room::Runs(usize::MAX)
-        }),
-        _ => None,
-    }
-}
-
-// Carries a command out. Commands of an opened selection come with readers, and are misuse until then.
-pub(crate) fn obey<W: Write>(
-    heap: Global,
-    slots: &mut Slots,
-    command: &Command,
-    out: &mut W,
-) -> Result<Outcome, Stop> {
-    match command.verb {
-        Verb::Reset => {
-            slots.reset();
-            Ok(Outcome::Done)
+impl<W: Write + Drop> Session<W> {
+    // Commands of an opened selection come with readers, and are misuse until then.
+    pub(crate) fn obey(&mut self, verb: Verb, args: Args<'_>) -> Result<(), No> {
+        match verb {
+            Verb::Reset => self.reset(),
+            Verb::Runs => self.put(args, runs_of(self.heap, args)?),
+            Verb::Mask => self.put(args, mask_of(self.heap, args)?),
+            Verb::Ranges => self.put(args, ranges_of(self.heap, args)?),
+            Verb::FillMask => self.put(args, mask_drawn(self.heap, args)?),
+            Verb::FillRuns => self.put(args, runs_drawn(self.heap, args)?),
+            Verb::Copy => self.copy(args),
+            Verb::Convert => self.one(args, 1, 2, |of| Operation::Convert(of)),
+            Verb::Trim => self.one(args, 0, 1, |of| Operation::Trim(of)),
+            Verb::Offset => self.cut(args, |of, n| Operation::Offset(of, n)),
+            Verb::Limit => self.cut(args, |of, n| Operation::Limit(of, n)),
+            Verb::AndThen => self.two(args, |a, b| Operation::Narrow(a, b)),
+            Verb::And => self.two(args, |a, b| Operation::And(a, b)),
+            Verb::Or => self.two(args, |a, b| Operation::Or(a, b)),
+            Verb::Join => self.two(args, |a, b| Operation::Join(a, b)),
+            Verb::Split => self.split(args),
+            Verb::Rows => self.tell_rows(args),
+            Verb::Bytes => self.tell_bytes(args),
+            Verb::Count => self.tell_count(args),
+            Verb::Sum => self.tell_sum(args),
+            Verb::Eq => self.tell_equal(args),
+            Verb::Strategy => self.tell_strategy(args),
+            Verb::Nth => self.tell_nth(args),
+            Verb::Scan => self.tell_scan(args),
+            Verb::PageRows => self.tell_page_rows(args),
+            _ => Err(No::Misuse),
         }
-        Verb::Runs => make_runs(heap, slots, command),
-        Verb::Mask => make_mask(heap, slots, command),
-        Verb::Ranges => make_ranges(heap, slots, command),
-        Verb::FillMask => fill_mask(heap, slots, command),
-        Verb::FillRuns => fill_runs(heap, slots, command),
-        Verb::Copy | Verb::Convert => copy(heap, slots, command),
-        Verb::AndThen | Verb::And | Verb::Or | Verb::Join => pair(heap, slots, command),
-        Verb::Split => split(heap, slots, command),
-        Verb::Offset | Verb::Limit | Verb::Trim => cut(heap, slots, command),
-        Verb::Scan => tell_scan(heap, slots, command, out),
-        Verb::PageRows => tell_page_rows(heap, slots, command, out),
-        _ => tell(heap, slots, command, out),
     }
 }

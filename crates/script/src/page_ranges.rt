@@ -1,79 +1,40 @@
 // Commands that tell the pages a selection needs.
-use crate::answer::{Outcome, Stop};
-use crate::obey::{number, slot};
-use crate::slots::Slots;
+use crate::args::Args;
+use crate::no::No;
+use crate::session::Session;
 use pages::page::ByteRange;
-use rows::range::RowRange;
-use scripts::command::{Command, Tail};
-use std::alloc::Global;
+use rows::range::{RowRange, Span};
+use std::fmt::Display;
 use std::io::Write;
 
-// The byte ranges of the pages that hold a selected row; there are no more than pages.
-pub(crate) fn tell_scan<W: Write>(
-    heap: Global,
-    slots: &Slots,
-    command: &Command,
-    out: &mut W,
-) -> Result<Outcome, Stop> {
-    let (Some(a), Some(most), Tail::Pages(pages)) = (
-        slot(command, 0),
-        number(command, 1),
-        &command.tail,
-    ) else {
-        return Ok(Outcome::Misuse);
-    };
-    let Some(stored) = slots.get(a) else {
-        return Ok(Outcome::Misuse);
-    };
-    let mut place = vec![in heap; ByteRange { start: 0, end: 0 }; pages.len().min(most)]?;
-    let n = match stored
-        .selection()
-        .scan_ranges(pages.as_slice(), place.as_mut_slice())
-    {
-        Ok(n) => n,
-        Err(fault) => return Ok(Outcome::Refused(fault)),
-    };
-    out.write_all(b"ranges")?;
-    for range in place.iter().take(n) {
-        let start = range.start;
-        let end = range.end;
-        write!(out, " {start} {end}")?;
+impl<W: Write + Drop> Session<W> {
+    // The first n of the ranges.
+    fn tell_ranges<T: Display>(&mut self, ranges: &[Span<T>], n: usize) -> Result<(), No> {
+        self.out.write_all(b"ranges")?;
+        for range in ranges.iter().take(n) {
+            write!(self.out, " {} {}", range.start, range.end)?;
+        }
+        Ok(self.out.write_all(b"\n")?)
     }
-    out.write_all(b"\n")?;
-    Ok(Outcome::Told)
-}
 
-// The rows of those pages.
-pub(crate) fn tell_page_rows<W: Write>(
-    heap: Global,
-    slots: &Slots,
-    command: &Command,
-    out: &mut W,
-) -> Result<Outcome, Stop> {
-    let (Some(a), Some(most), Some(total)) = (
-        slot(command, 0),
-        number(command, 1),
-        number(command, 2),
-    ) else {
-        return Ok(Outcome::Misuse);
-    };
-    let (Some(stored), Tail::Pages(pages)) = (slots.get(a), &command.tail) else {
-        return Ok(Outcome::Misuse);
-    };
-    let mut place = vec![in heap; RowRange { start: 0, end: 0 }; pages.len().min(most)]?;
-    let n = match stored
-        .selection()
-        .row_ranges_for_selected_pages(pages.as_slice(), total, place.as_mut_slice())
-    {
-        Ok(n) => n,
-        Err(fault) => return Ok(Outcome::Refused(fault)),
-    };
-    out.write_all(b"ranges")?;
-    for range in place.iter().take(n) {
-        let start = range.start;
-        let end = range.end;
-        write!(out, " {start} {end}")?;
+    // The byte ranges of the pages that hold a selected row; there are no more than pages.
+    pub(crate) fn tell_scan(&mut self, args: Args<'_>) -> Result<(), No> {
+        let selection = self.slots.selection(args.slot(0)?)?;
+        let pages = args.pages()?;
+        let most = pages.len().min(args.number(1)?);
+        let mut place = vec![in self.heap; ByteRange { start: 0, end: 0 }; most]?;
+        let n = selection.scan_ranges(pages, place.as_mut_slice())?;
+        self.tell_ranges(place.as_slice(), n)
     }
-    out.write_all(b"\n")?;
-    Ok(Outcome::Told)
+
+    // The rows of those pages.
+    pub(crate) fn tell_page_rows(&mut self, args: Args<'_>) -> Result<(), No> {
+        let selection = self.slots.selection(args.slot(0)?)?;
+        let pages = args.pages()?;
+        let most = pages.len().min(args.number(1)?);
+        let total = args.number(2)?;
+        let mut place = vec![in self.heap; RowRange { start: 0, end: 0 }; most]?;
+        let n = selection.row_ranges_for_selected_pages(pages, total, place.as_mut_slice())?;
+        self.tell_ranges(place.as_slice(), n)
+    }
 }

@@ -1,19 +1,14 @@
 // The sixteen slots of a script.
-use std::alloc::{AllocError, AllocFailed, Global};
+use crate::no::No;
+use selections::form::RowSelection;
+use std::alloc::{AllocError, Global};
 use stored::held::Stored;
 
 const SLOTS: usize = 16;
 
-// A selection, and whether it is trimmed; or nothing.
-#[derive(Drop)]
-enum Slot {
-    Empty,
-    Full(Stored, bool),
-}
-
 #[derive(Drop)]
 pub(crate) struct Slots {
-    slots: Vec<Slot>,
+    slots: Vec<Option<Stored>>,
 }
 
 impl Slots {
@@ -21,29 +16,34 @@ impl Slots {
     pub(crate) fn new(heap: Global) -> Result<Slots, AllocError> {
         let mut slots = Vec::new(heap);
         for _ in 0..SLOTS {
-            slots.push(Slot::Empty)?;
+            slots.push(None)?;
         }
         Ok(Slots { slots })
     }
 
-    // What a slot holds.
-    pub(crate) fn get(&self, slot: usize) -> Option<&Stored> {
+    // What a slot holds. To ask an empty one is misuse.
+    pub(crate) fn get(&self, slot: usize) -> Result<&Stored, No> {
         match self.slots.get(slot) {
-            Some(Slot::Full(stored, _)) => Some(stored),
-            _ => None,
+            Some(Some(stored)) => Ok(stored),
+            _ => Err(No::Misuse),
         }
     }
 
+    // Its rows.
+    pub(crate) fn selection(&self, slot: usize) -> Result<RowSelection<'_>, No> {
+        Ok(self.get(slot)?.selection())
+    }
+
     // A selection into a slot, which forgets what it held.
-    pub(crate) fn put(&mut self, slot: usize, stored: Stored, trimmed: bool) {
-        if slot < self.slots.len() {
-            self.slots[slot] = Slot::Full(stored, trimmed);
+    pub(crate) fn put(&mut self, slot: usize, stored: Stored) {
+        if let Some(held) = self.slots.get_mut(slot) {
+            *held = Some(stored);
         }
     }
 
     pub(crate) fn reset(&mut self) {
-        for slot in 0..self.slots.len() {
-            self.slots[slot] = Slot::Empty;
+        for held in self.slots.iter_mut() {
+            *held = None;
         }
     }
 }

@@ -1,145 +1,75 @@
 // Commands that tell something of a selection.
-use crate::answer::{Outcome, Stop, refused};
+use crate::args::Args;
 use crate::digest::{digest, write_runs};
-use crate::obey::{number, slot};
-use crate::slots::Slots;
-use rows::strategy::RowSelectionStrategy;
-use scripts::command::{Command, Verb};
-use selections::form::RowSelection;
-use std::alloc::Global;
+use crate::no::No;
+use crate::session::Session;
+use std::io;
 use std::io::Write;
-use stored::operation::Convert;
+use stored::operation::Operation;
 use stored::perform::into_mask;
 
-const DIGITS: [u8; 16] = *b"0123456789abcdef";
-
 // Bytes as two digits each, and none as `-`.
-fn write_bytes<W: Write>(heap: Global, out: &mut W, bytes: &[u8]) -> Result<(), Stop> {
-    let mut text: Vec<u8> = Vec::new(heap);
-    for byte in bytes {
-        text.push(DIGITS[*byte as usize / 16])?;
-        text.push(DIGITS[*byte as usize % 16])?;
-    }
+fn write_bytes<W: Write>(out: &mut W, bytes: &[u8]) -> io::Result<()> {
     if bytes.is_empty() {
-        text.push(b'-')?;
+        out.write_all(b"-")?;
     }
-    text.push(b'\n')?;
-    out.write_all(b"bytes ")?;
-    out.write_all(text.as_slice())?;
+    for byte in bytes {
+        write!(out, "{byte:02x}")?;
+    }
     Ok(())
 }
 
-// The rows as a mask from bit 0 on.
-fn tell_bytes<W: Write>(
-    heap: Global,
-    selection: RowSelection,
-    most: usize,
-    out: &mut W,
-) -> Result<Outcome, Stop> {
-    match into_mask(heap, Convert { of: selection }, most) {
-        Ok(mask) => {
-            write_bytes(heap, out, mask.bytes.as_slice())?;
-            Ok(Outcome::Told)
-        }
-        Err(trouble) => refused(trouble),
+impl<W: Write + Drop> Session<W> {
+    pub(crate) fn tell_rows(&mut self, args: Args<'_>) -> Result<(), No> {
+        let selection = self.slots.selection(args.slot(0)?)?;
+        self.out.write_all(b"rows")?;
+        write_runs(&mut self.out, selection)?;
+        Ok(self.out.write_all(b"\n")?)
     }
-}
 
-fn tell_sum<W: Write>(selection: RowSelection, out: &mut W) -> Result<Outcome, Stop> {
-    let all = selection.total_row_count();
-    let selected = selection.row_count();
-    let (runs, hash) = digest(selection);
-    writeln!(out, "sum {all} {selected} {runs} {hash}")?;
-    Ok(Outcome::Told)
-}
-
-fn tell_count<W: Write>(selection: RowSelection, out: &mut W) -> Result<Outcome, Stop> {
-    let all = selection.total_row_count();
-    let selected = selection.row_count();
-    let any = u8::from(selection.selects_any());
-    writeln!(out, "count {selected} {all} {any}")?;
-    Ok(Outcome::Told)
-}
-
-fn tell_strategy<W: Write>(
-    selection: RowSelection,
-    threshold: usize,
-    out: &mut W,
-) -> Result<Outcome, Stop> {
-    match selection.auto_selection_strategy(threshold) {
-        RowSelectionStrategy::Mask => out.write_all(b"strategy mask\n")?,
-        RowSelectionStrategy::Selectors => out.write_all(b"strategy selectors\n")?,
+    // The rows as a mask from bit 0 on.
+    pub(crate) fn tell_bytes(&mut self, args: Args<'_>) -> Result<(), No> {
+        let selection = self.slots.selection(args.slot(0)?)?;
+        let mask = into_mask(self.heap, Operation::Convert(selection), args.number(1)?)?;
+        self.out.write_all(b"bytes ")?;
+        write_bytes(&mut self.out, mask.bytes())?;
+        Ok(self.out.write_all(b"\n")?)
     }
-    Ok(Outcome::Told)
-}
 
-// A command with one number.
-fn tell_at<W: Write>(
-    heap: Global,
-    verb: Verb,
-    selection: RowSelection,
-    n: usize,
-    out: &mut W,
-) -> Result<Outcome, Stop> {
-    match verb {
-        Verb::Bytes => tell_bytes(heap, selection, n, out),
-        Verb::Strategy => tell_strategy(selection, n, out),
-        Verb::Nth if selection.is_mask() => {
-            let position = selection.mask().find_nth_set_bit_position(n);
-            writeln!(out, "nth {position}")?;
-            Ok(Outcome::Told)
-        }
-        _ => Ok(Outcome::Misuse),
+    pub(crate) fn tell_count(&mut self, args: Args<'_>) -> Result<(), No> {
+        let selection = self.slots.selection(args.slot(0)?)?;
+        let all = selection.total_row_count();
+        let selected = selection.row_count();
+        let any = u8::from(selection.selects_any());
+        Ok(writeln!(self.out, "count {selected} {all} {any}")?)
     }
-}
 
-// A command with two selections, or one and perhaps a number.
-pub(crate) fn tell<W: Write>(
-    heap: Global,
-    slots: &Slots,
-    command: &Command,
-    out: &mut W,
-) -> Result<Outcome, Stop> {
-    let Some(a) = slot(command, 0) else {
-        return Ok(Outcome::Misuse);
-    };
-    let Some(stored) = slots.get(a) else {
-        return Ok(Outcome::Misuse);
-    };
-    let selection = stored.selection();
-    match command.verb {
-        Verb::Rows => {
-            out.write_all(b"rows")?;
-            write_runs(out, selection)?;
-            out.write_all(b"\n")?;
-            Ok(Outcome::Told)
-        }
-        Verb::Count => tell_count(selection, out),
-        Verb::Sum => tell_sum(selection, out),
-        Verb::Eq => tell_equal(slots, selection, command, out),
-        verb => match number(command, 1) {
-            Some(n) => tell_at(heap, verb, selection, n, out),
-            None => Ok(Outcome::Misuse),
-        },
+    pub(crate) fn tell_sum(&mut self, args: Args<'_>) -> Result<(), No> {
+        let selection = self.slots.selection(args.slot(0)?)?;
+        let all = selection.total_row_count();
+        let selected = selection.row_count();
+        let (runs, hash) = digest(selection);
+        Ok(writeln!(self.out, "sum {all} {selected} {runs} {hash}")?)
     }
-}
 
-fn tell_equal<W: Write>(
-    slots: &Slots,
-    selection: RowSelection,
-    command: &Command,
-    out: &mut W,
-) -> Result<Outcome, Stop> {
-    let Some(b) = slot(command, 1) else {
-        return Ok(Outcome::Misuse);
-    };
-    let Some(other) = slots.get(b) else {
-        return Ok(Outcome::Misuse);
-    };
-    if selection.equals(&other.selection()) {
-        out.write_all(b"eq 1\n")?;
-    } else {
-        out.write_all(b"eq 0\n")?;
+    pub(crate) fn tell_equal(&mut self, args: Args<'_>) -> Result<(), No> {
+        let first = self.slots.selection(args.slot(0)?)?;
+        let second = self.slots.selection(args.slot(1)?)?;
+        let equal = u8::from(first.equals(&second));
+        Ok(writeln!(self.out, "eq {equal}")?)
     }
-    Ok(Outcome::Told)
+
+    pub(crate) fn tell_strategy(&mut self, args: Args<'_>) -> Result<(), No> {
+        let selection = self.slots.selection(args.slot(0)?)?;
+        let strategy = selection.auto_selection_strategy(args.number(1)?);
+        Ok(writeln!(self.out, "strategy {strategy}")?)
+    }
+
+    // The place behind the n-th selected row of a mask.
+    pub(crate) fn tell_nth(&mut self, args: Args<'_>) -> Result<(), No> {
+        let selection = self.slots.selection(args.slot(0)?)?;
+        let mask = selection.mask().ok_or(No::Misuse)?;
+        let position = mask.find_nth_set_bit_position(args.number(1)?);
+        Ok(writeln!(self.out, "nth {position}")?)
+    }
 }

@@ -1,130 +1,112 @@
-// Commands that write a slot from others.
-use crate::answer::{Outcome, Stop, refused};
-use crate::make::put;
-use crate::obey::{number, room, slot};
-use crate::slots::Slots;
-use policies::both::{And, Or};
-use scripts::command::{Command, Verb};
+// Commands that write slots.
+use crate::args::Args;
+use crate::no::No;
+use crate::session::Session;
+use scripts::command::Place;
+use selections::form::RowSelection;
 use std::alloc::Global;
-use stored::operation::{Combine, Convert, Join, Limit, Narrow, Offset, Trim};
-use stored::perform::{Room, perform};
+use std::io::Write;
+use stored::held::Stored;
+use stored::operation::Operation;
+use stored::perform::perform;
+use stored::room::Room;
 use stored::split::split_stored;
 
-// The same rows: a copy keeps the form, a conversion has that of its place.
-pub(crate) fn copy(heap: Global, slots: &mut Slots, command: &Command) -> Result<Outcome, Stop> {
-    let (Some(d), Some(a)) = (slot(command, 0), slot(command, 1)) else {
-        return Ok(Outcome::Misuse);
-    };
-    let Some(stored) = slots.get(a) else {
-        return Ok(Outcome::Misuse);
-    };
-    let made = match command.verb {
-        Verb::Copy => stored.copy(heap),
-        _ => match room(command, 2, stored.is_mask()) {
-            Some(room) => perform(
-                heap,
-                Convert {
-                    of: stored.selection(),
-                },
-                room,
-            ),
-            None => return Ok(Outcome::Misuse),
-        },
-    };
-    put(slots, d, made, false)
-}
-
-// Two selections made into one.
-pub(crate) fn pair(heap: Global, slots: &mut Slots, command: &Command) -> Result<Outcome, Stop> {
-    let (Some(d), Some(a), Some(b)) = (slot(command, 0), slot(command, 1), slot(command, 2)) else {
-        return Ok(Outcome::Misuse);
-    };
-    let (Some(x), Some(y)) = (slots.get(a), slots.get(b)) else {
-        return Ok(Outcome::Misuse);
-    };
-    let is_mask = match command.verb {
-        Verb::AndThen => x.is_mask(),
-        _ => x.is_mask() && y.is_mask(),
-    };
-    let Some(room) = room(command, 3, is_mask) else {
-        return Ok(Outcome::Misuse);
-    };
-    let first = x.selection();
-    let second = y.selection();
-    let made = match command.verb {
-        Verb::AndThen => perform(heap, Narrow { first, second }, room),
-        Verb::And => perform(
-            heap,
-            Combine {
-                first,
-                second,
-                policy: And,
-            },
-            room,
-        ),
-        Verb::Or => perform(
-            heap,
-            Combine {
-                first,
-                second,
-                policy: Or,
-            },
-            room,
-        ),
-        _ => perform(heap, Join { first, second }, room),
-    };
-    put(slots, d, made, false)
-}
-
-// A selection cut short, in its own slot.
-pub(crate) fn cut(heap: Global, slots: &mut Slots, command: &Command) -> Result<Outcome, Stop> {
-    let trims = match command.verb {
-        Verb::Trim => true,
-        _ => false,
-    };
-    let (Some(a), Some(n)) = (
-        slot(command, 0),
-        if trims { Some(0) } else { number(command, 1) },
-    ) else {
-        return Ok(Outcome::Misuse);
-    };
-    let Some(stored) = slots.get(a) else {
-        return Ok(Outcome::Misuse);
-    };
-    let Some(room) = room(command, if trims { 1 } else { 2 }, stored.is_mask()) else {
-        return Ok(Outcome::Misuse);
-    };
-    let of = stored.selection();
-    let made = match command.verb {
-        Verb::Trim => perform(heap, Trim { of }, room),
-        Verb::Offset => perform(heap, Offset { of, n }, room),
-        _ => perform(heap, Limit { of, n }, room),
-    };
-    put(slots, a, made, trims)
-}
-
-// The first rows into one slot, and the rest into the slot they came from.
-pub(crate) fn split(heap: Global, slots: &mut Slots, command: &Command) -> Result<Outcome, Stop> {
-    let (Some(d), Some(a), Some(n)) = (slot(command, 0), slot(command, 1), number(command, 2))
-    else {
-        return Ok(Outcome::Misuse);
-    };
-    if d == a {
-        return Ok(Outcome::Misuse);
+// The room that a place gives; the natural one has the form asked for, and no bound.
+fn room(place: Place, is_mask: bool) -> Room {
+    match place {
+        Place::Runs(most) => Room::Runs(most),
+        Place::Mask(most) => Room::Mask(most),
+        Place::Natural if is_mask => Room::Mask(usize::MAX),
+        Place::Natural => Room::Runs(usize::MAX),
     }
-    let Some(stored) = slots.get(a) else {
-        return Ok(Outcome::Misuse);
-    };
-    let is_mask = stored.is_mask();
-    let (Some(front), Some(rest)) = (room(command, 3, is_mask), room(command, 4, is_mask)) else {
-        return Ok(Outcome::Misuse);
-    };
-    match split_stored(heap, stored.selection(), n, front, rest) {
-        Ok((first, second)) => {
-            slots.put(d, first, false);
-            slots.put(a, second, false);
-            Ok(Outcome::Done)
+}
+
+fn result(heap: Global, operation: Operation<'_>, place: Place) -> Result<Stored, No> {
+    Ok(perform(heap, operation, room(place, operation.is_mask()))?)
+}
+
+impl<W: Write + Drop> Session<W> {
+    fn done(&mut self) -> Result<(), No> {
+        Ok(self.out.write_all(b"ok\n")?)
+    }
+
+    // What was made, into the slot that is named first.
+    pub(crate) fn put(&mut self, args: Args<'_>, made: Stored) -> Result<(), No> {
+        self.slots.put(args.slot(0)?, made);
+        self.done()
+    }
+
+    pub(crate) fn reset(&mut self) -> Result<(), No> {
+        self.slots.reset();
+        self.done()
+    }
+
+    // The same rows in the same form.
+    pub(crate) fn copy(&mut self, args: Args<'_>) -> Result<(), No> {
+        let made = self.slots.get(args.slot(1)?)?.copy(self.heap)?;
+        self.put(args, made)
+    }
+
+    // A slot's rows made into others; its name and its place stand where the command has them.
+    pub(crate) fn one<F: for<'s> FnOnce(RowSelection<'s>) -> Operation<'s>>(
+        &mut self,
+        args: Args<'_>,
+        slot: usize,
+        place: usize,
+        operation: F,
+    ) -> Result<(), No>
+        requires { F.IsAlwaysCallable operation }
+    {
+        let of = self.slots.selection(args.slot(slot)?)?;
+        let made = result(self.heap, operation(of), args.place(place)?)?;
+        self.put(args, made)
+    }
+
+    // A slot's rows, cut short by a number.
+    pub(crate) fn cut<F: for<'s> FnOnce(RowSelection<'s>, usize) -> Operation<'s>>(
+        &mut self,
+        args: Args<'_>,
+        operation: F,
+    ) -> Result<(), No>
+        requires { F.IsAlwaysCallable operation }
+    {
+        let of = self.slots.selection(args.slot(0)?)?;
+        let made = result(self.heap, operation(of, args.number(1)?), args.place(2)?)?;
+        self.put(args, made)
+    }
+
+    // Two selections made into one.
+    pub(crate) fn two<F: for<'s> FnOnce(RowSelection<'s>, RowSelection<'s>) -> Operation<'s>>(
+        &mut self,
+        args: Args<'_>,
+        operation: F,
+    ) -> Result<(), No>
+        requires { F.IsAlwaysCallable operation }
+    {
+        let first = self.slots.selection(args.slot(1)?)?;
+        let second = self.slots.selection(args.slot(2)?)?;
+        let made = result(self.heap, operation(first, second), args.place(3)?)?;
+        self.put(args, made)
+    }
+
+    // The first rows into one slot, and the rest into the slot they came from.
+    pub(crate) fn split(&mut self, args: Args<'_>) -> Result<(), No> {
+        let front = args.slot(0)?;
+        let rest = args.slot(1)?;
+        if front == rest {
+            return Err(No::Misuse);
         }
-        Err(trouble) => refused(trouble),
+        let of = self.slots.get(rest)?;
+        let (first, second) = split_stored(
+            self.heap,
+            of.selection(),
+            args.number(2)?,
+            room(args.place(3)?, of.is_mask()),
+            room(args.place(4)?, of.is_mask()),
+        )?;
+        self.slots.put(front, first);
+        self.slots.put(rest, second);
+        self.done()
     }
 }

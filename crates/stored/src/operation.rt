@@ -21,6 +21,20 @@ pub enum Operation<'a> {
 }
 
 impl<'a> Operation<'a> {
+    // Whether its result is a mask where no form is asked for.
+    pub fn is_mask(&self) -> bool {
+        match self {
+            Operation::And(first, second)
+            | Operation::Or(first, second)
+            | Operation::Join(first, second) => first.is_mask() && second.is_mask(),
+            Operation::Narrow(of, _)
+            | Operation::Offset(of, _)
+            | Operation::Limit(of, _)
+            | Operation::Convert(of)
+            | Operation::Trim(of) => of.is_mask(),
+        }
+    }
+
     // Writes its result into whatever sink it is given.
     pub fn write<K: WordSink>(&self, out: &mut K) -> Result<(), SelectionFault>
         ensures { Writes K.sink out.old (answers K.sink out.old self.now) (made self.now) result out.new }

@@ -21,7 +21,7 @@ struct Front<'a> {
     rest: Room,
 }
 
-// The rest, written together with the first part. It refers to the selection, since what is proved of a value with ghost fields beside a `&mut` is lost.
+// The rest, written together with the first part. The selection is lent: beside a `&mut`, a value with ghost fields has no proof.
 #[derive(Drop)]
 struct Rest<'s, 'f, F> {
     of: &'s RowSelection<'s>,
