@@ -1,7 +1,7 @@
 // A selection that owns its memory, in one form or the other.
 ghost use Rattle.std.specs.Prelude.{◌≡◌, IfOk};
 ghost use Rattle.selections.specs.Forms.{selection_rows};
-ghost use Rattle.stored.specs.Rows.{stored_rows};
+ghost use Rattle.stored.specs.Rows.{stored_rows, in_mask};
 
 use crate::bytes::StoredMask;
 use crate::stored_runs::StoredRuns;
@@ -16,7 +16,9 @@ pub enum Stored {
 
 impl Stored {
     // Whether it is in a mask.
-    pub fn is_mask(&self) -> bool {
+    pub fn is_mask(&self) -> bool
+        ensures { result ≡ in_mask self.now }
+    {
         matches!(self, Stored::Mask(_))
     }
 

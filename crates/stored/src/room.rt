@@ -62,6 +62,13 @@ pub(crate) fn in_runs<J: Fill>(
     Ok((StoredRuns::copy_of(heap, place.list())?, told))
 }
 
+// How many rows a place holds.
+fn held(place: &MaskPlace<'_>) -> usize
+    ensures { result ≡ place.now.len }
+{
+    place.mask().len()
+}
+
 // A job's rows from bit 0 of the bytes on; how many they are, and what it tells.
 fn fill_bytes<J: Fill>(bytes: &mut [u8], job: &mut J) -> Result<(usize, J::Told), Trouble>
     ensures rows { IfOk result (λ t. J.filled job.old (mask_rows bytes.new 0 t.0) t.1 job.new) }
@@ -69,7 +76,7 @@ fn fill_bytes<J: Fill>(bytes: &mut [u8], job: &mut J) -> Result<(usize, J::Told)
 {
     let mut place = MaskPlace::new(bytes);
     let told = job.fill(&mut place)?;
-    Ok((place.mask().len(), told))
+    Ok((held(&place), told))
 }
 
 // A job's rows as a mask, in a place of at most so many bytes, and no more than an operation needs.
