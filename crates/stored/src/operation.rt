@@ -1,6 +1,7 @@
 // Operations that wait for a place.
+ghost use Rattle.std.specs.Prelude.{◌≡◌};
 ghost use Rattle.runs.specs.Sinks.{Writes};
-ghost use Rattle.stored.specs.Makes.{made, answers};
+ghost use Rattle.stored.specs.Makes.{made, natural_mask, answers};
 
 use cuts::trimming::Trimming;
 use refusals::fault::SelectionFault;
@@ -22,7 +23,9 @@ pub enum Operation<'a> {
 
 impl<'a> Operation<'a> {
     // Whether its result is a mask where no form is asked for.
-    pub fn is_mask(&self) -> bool {
+    pub fn is_mask(&self) -> bool
+        ensures { result ≡ natural_mask self.now }
+    {
         match self {
             Operation::And(first, second)
             | Operation::Or(first, second)

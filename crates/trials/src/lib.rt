@@ -4,6 +4,8 @@
 #[cfg(test)]
 mod bit_rows;
 #[cfg(test)]
+mod keeping;
+#[cfg(test)]
 mod narrowing;
 #[cfg(test)]
 mod page_lists;
