@@ -70,6 +70,7 @@ impl Draws {
         let mut bytes = vec![in heap; 0u8; len]?;
         for chunk in bytes.chunks_mut(8) {
             let word = self.word(mode).to_le_bytes();
+            // Copied whole, which is quicker than byte by byte.
             let n = chunk.len().min(8);
             chunk[..n].copy_from_slice(&word[..n]);
         }
