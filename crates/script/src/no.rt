@@ -19,6 +19,7 @@ pub(crate) enum No {
     Io(#[from] io::Error),
 }
 
+// Written out, since `WordError` tells want of memory without an `AllocError` to hold.
 impl From<AllocError> for No {
     fn from(_: AllocError) -> No {
         No::NoMemory
