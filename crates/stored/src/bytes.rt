@@ -44,9 +44,10 @@ impl StoredMask {
         self.bytes.as_slice()
     }
 
-    // A copy of the same bytes.
+    // A copy with the same bytes, the rows at the same place in them.
     pub fn copy(&self, heap: Global) -> Result<StoredMask, AllocError>
-        ensures { IfOk result (λ m. mask_rows m.bytes.items m.offset m.len ≡ mask_rows self.now.bytes.items self.now.offset self.now.len) }
+        ensures bytes { IfOk result (λ m. m.bytes.items ≡ self.now.bytes.items) }
+        ensures place { IfOk result (λ m. (m.offset ≡ self.now.offset) × (m.len ≡ self.now.len)) }
     {
         Ok(StoredMask {
             bytes: self.bytes.as_slice().to_vec(heap)?,

@@ -34,7 +34,8 @@ impl Stored {
 
     // A copy in the same form.
     pub fn copy(&self, heap: Global) -> Result<Stored, AllocError>
-        ensures { IfOk result (λ s. stored_rows s ≡ stored_rows self.now) }
+        ensures rows { IfOk result (λ s. stored_rows s ≡ stored_rows self.now) }
+        ensures form { IfOk result (λ s. in_mask s ≡ in_mask self.now) }
     {
         match self {
             Stored::Runs(runs) => StoredRuns::copy_of(heap, runs.list()).map(Stored::Runs),

@@ -1,14 +1,37 @@
 // Operations that wait for a place.
-ghost use Rattle.std.specs.Prelude.{◌≡◌};
-ghost use Rattle.runs.specs.Sinks.{Writes};
-ghost use Rattle.stored.specs.Makes.{made, natural_mask, answers};
+ghost use Rattle.std.specs.Prelude.{◌≡◌, Bool, List, ◌&&◌};
+ghost use Rattle.rows.specs.Rules.{combine};
+ghost use Rattle.runs.specs.Sinks.{Sink, Verdict, Writes, placed};
+ghost use Rattle.selections.specs.Forms.{selection_rows};
+ghost use Rattle.stored.specs.Makes.{made as rows_made, masked, natural_mask, answers};
 
 use cuts::trimming::Trimming;
+use policies::policy::Policy;
 use refusals::fault::SelectionFault;
 use selections::form::RowSelection;
 use words::sink::WordSink;
 
-// What makes a selection of one or two others. A closure would have to be generic over the sink.
+// What writes a selection into whatever sink it is given. A closure would have to be generic over the sink.
+pub trait Operate: Copy {
+    // the rows of its result
+    ghost made: { Self → List Bool };
+
+    // whether it is a mask where no form is asked for
+    ghost natural: { Self → Bool };
+
+    // what its call answers in a sink
+    ghost answered: { (S : Type 0) → Sink S → S → Self → Verdict };
+
+    // Whether its result is a mask where no form is asked for.
+    fn is_mask(&self) -> bool
+        ensures { result ≡ natural self.now };
+
+    // Writes its result, or refuses and leaves the sink as it is.
+    fn write<K: WordSink>(&self, out: &mut K) -> Result<(), SelectionFault>
+        ensures { Writes K.sink out.old (answered K K.sink out.old self.now) (made self.now) result out.new };
+}
+
+// What makes a selection of one or two others.
 #[derive(Clone, Copy)]
 pub enum Operation<'a> {
     Convert(RowSelection<'a>),
@@ -21,11 +44,14 @@ pub enum Operation<'a> {
     Trim(RowSelection<'a>),
 }
 
-impl<'a> Operation<'a> {
-    // Whether its result is a mask where no form is asked for.
-    pub fn is_mask(&self) -> bool
-        ensures { result ≡ natural_mask self.now }
-    {
+impl<'a> Operate for Operation<'a> {
+    ghost made = { rows_made };
+
+    ghost natural = { natural_mask };
+
+    ghost answered = { λ _ k s o. answers k s o };
+
+    fn is_mask(&self) -> bool {
         match self {
             Operation::And(first, second)
             | Operation::Or(first, second)
@@ -38,10 +64,7 @@ impl<'a> Operation<'a> {
         }
     }
 
-    // Writes its result into whatever sink it is given.
-    pub fn write<K: WordSink>(&self, out: &mut K) -> Result<(), SelectionFault>
-        ensures { Writes K.sink out.old (answers K.sink out.old self.now) (made self.now) result out.new }
-    {
+    fn write<K: WordSink>(&self, out: &mut K) -> Result<(), SelectionFault> {
         match self {
             Operation::Convert(of) => of.write(out),
             Operation::Narrow(first, second) => first.and_then(second, out),
@@ -52,5 +75,29 @@ impl<'a> Operation<'a> {
             Operation::Limit(of, n) => of.limit(*n, out),
             Operation::Trim(of) => of.trimmed().write(out),
         }
+    }
+}
+
+// Two selections row by row, by a policy of the caller's.
+#[derive(Clone, Copy)]
+pub struct Combine<'a, 'b, P> {
+    pub first: RowSelection<'a>,
+    pub second: RowSelection<'b>,
+    pub policy: P,
+}
+
+impl<'a, 'b, P: Policy> Operate for Combine<'a, 'b, P> {
+    ghost made = { λ c. combine P.rule (selection_rows c.first) (selection_rows c.second) };
+
+    ghost natural = { λ c. masked c.first && masked c.second };
+
+    ghost answered = { λ _ k s c. placed k s (combine P.rule (selection_rows c.first) (selection_rows c.second)) };
+
+    fn is_mask(&self) -> bool {
+        self.first.is_mask() && self.second.is_mask()
+    }
+
+    fn write<K: WordSink>(&self, out: &mut K) -> Result<(), SelectionFault> {
+        self.first.combine(&self.second, self.policy, out)
     }
 }

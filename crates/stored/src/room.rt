@@ -6,7 +6,7 @@ ghost use Rattle.stored.specs.Rows.{rows_of_runs, rows_of_mask, stored_rows};
 
 use crate::bytes::StoredMask;
 use crate::held::Stored;
-use crate::operation::Operation;
+use crate::operation::Operate;
 use crate::stored_runs::StoredRuns;
 use crate::trouble::Trouble;
 use masks::place::MaskPlace;
@@ -36,7 +36,7 @@ pub(crate) trait Fill {
 }
 
 // What the result of an operation needs in the form of an empty sink.
-fn needed<K: WordSink>(of: &Operation<'_>, empty: &mut K) -> Result<usize, SelectionFault> {
+fn needed<O: Operate, K: WordSink>(of: &O, empty: &mut K) -> Result<usize, SelectionFault> {
     match of.write(empty) {
         Ok(()) => Ok(0),
         Err(SelectionFault::PlaceTooSmall(n) | SelectionFault::Bits(BitsFault::BytesTooFew(n))) => {
@@ -47,9 +47,9 @@ fn needed<K: WordSink>(of: &Operation<'_>, empty: &mut K) -> Result<usize, Selec
 }
 
 // A job's rows as runs, in a place of at most so many, and no more than an operation needs.
-pub(crate) fn in_runs<J: Fill>(
+pub(crate) fn in_runs<O: Operate, J: Fill>(
     heap: Global,
-    of: &Operation<'_>,
+    of: &O,
     most: usize,
     job: &mut J,
 ) -> Result<(StoredRuns, J::Told), Trouble>
@@ -80,9 +80,9 @@ fn fill_bytes<J: Fill>(bytes: &mut [u8], job: &mut J) -> Result<(usize, J::Told)
 }
 
 // A job's rows as a mask, in a place of at most so many bytes, and no more than an operation needs.
-pub(crate) fn in_mask<J: Fill>(
+pub(crate) fn in_mask<O: Operate, J: Fill>(
     heap: Global,
-    of: &Operation<'_>,
+    of: &O,
     most: usize,
     job: &mut J,
 ) -> Result<(StoredMask, J::Told), Trouble>
@@ -98,9 +98,9 @@ pub(crate) fn in_mask<J: Fill>(
 }
 
 // A job's rows in a place, of which it takes no more than an operation needs.
-pub(crate) fn in_room<J: Fill>(
+pub(crate) fn in_room<O: Operate, J: Fill>(
     heap: Global,
-    of: &Operation<'_>,
+    of: &O,
     room: Room,
     job: &mut J,
 ) -> Result<(Stored, J::Told), Trouble>
