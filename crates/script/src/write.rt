@@ -7,7 +7,7 @@ use selections::form::RowSelection;
 use std::alloc::Global;
 use std::io::Write;
 use stored::held::Stored;
-use stored::operation::Operation;
+use stored::operation::{Operate, Operation};
 use stored::perform::perform;
 use stored::room::Room;
 use stored::split::split_stored;

@@ -4,7 +4,7 @@ use refusals::refusal::Layer;
 use std::test::Fail;
 use stored::bytes::StoredMask;
 use stored::held::Stored;
-use stored::operation::Operation;
+use stored::operation::{Operate, Operation};
 use stored::perform::perform;
 use stored::room::Room;
 
