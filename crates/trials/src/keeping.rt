@@ -17,7 +17,10 @@ fn a_mask_is_kept_with_its_bytes(rt: HostRuntime) -> Result<(), Fail> {
     assert!(rt; copy.bytes() == mask.bytes());
     assert_eq!(rt; copy.mask().len(), 6);
     assert_eq!(rt; copy.mask().last_set_bit(), Some(4));
-    assert_eq!(rt; told(StoredMask::new(vec![in heap; 0u8; 1]?, 1, 8)), refused(2, 7, Layer::Bits));
+    assert_eq!(rt;
+        told(StoredMask::new(vec![in heap; 0u8; 1]?, 1, 8)),
+        refused(2, 7, Layer::Bits)
+    );
     Ok(())
 }
 
