@@ -1,2 +1,4 @@
 pub mod Rows
 pub mod Makes
+pub mod Ends
+pub mod Shown

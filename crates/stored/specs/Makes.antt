@@ -1,8 +1,9 @@
--- What an operation makes of its selections, and when a sink refuses it.
-use Rattle.std.specs.Prelude.{Bool, not, ◌&&◌, ◌||◌, List, ◌++◌}
+-- What an operation makes of its selections, and what it is refused by.
+use Rattle.std.specs.Prelude.{◌+◌, Bool, cond, not, ◌&&◌, ◌||◌, List, ◌++◌, length, Ok, nat_lt}
+use Rattle.refusals.specs.Refusals.{refused, selection}
+use Rattle.rows.specs.Rows.{row_limit, selected_count}
 use Rattle.rows.specs.Rules.{and_then, combine, offset, limit, trimmed}
-use Rattle.runs.specs.Sinks.{Sink, Verdict, placed, joins}
-use Rattle.algebra.specs.Verdicts.{narrows}
+use Rattle.runs.specs.Sinks.{Verdict}
 use Rattle.either.specs.Either.{is_left}
 use Rattle.selections.specs.declared.form.RowSelection.{RowSelection}
 use Rattle.selections.specs.Forms.{selection_rows}
@@ -34,13 +35,23 @@ natural_mask (op.Offset a n) = masked a
 natural_mask (op.Limit a n) = masked a
 natural_mask (op.Trim a) = masked a
 
--- what its call answers in the sink s
-abbrev pub answers : {S : Type 0} → Sink S → S → Operation → Verdict
-answers k s (op.Convert a) = placed k s (selection_rows a)
-answers k s (op.Narrow a b) = narrows k s (selection_rows a) (selection_rows b)
-answers k s (op.And a b) = placed k s (combine (λ x y. x && y) (selection_rows a) (selection_rows b))
-answers k s (op.Or a b) = placed k s (combine (λ x y. x || y) (selection_rows a) (selection_rows b))
-answers k s (op.Join a b) = joins k s (selection_rows a) (selection_rows b)
-answers k s (op.Offset a n) = placed k s (offset n (selection_rows a))
-answers k s (op.Limit a n) = placed k s (limit n (selection_rows a))
-answers k s (op.Trim a) = placed k s (trimmed (selection_rows a))
+-- the second's length is the first's selected count, or it is too short or too long
+abbrev pub matched : List Bool → List Bool → Verdict
+matched xs ys =
+    cond (nat_lt (length ys) (selected_count xs)) (refused 4 (length ys) selection)
+    (cond (nat_lt (selected_count xs) (length ys)) (refused 5 (selected_count xs) selection) (Ok tt))
+
+-- two parts are within the row limit together, or the second passes it
+abbrev pub few_together : List Bool → List Bool → Verdict
+few_together xs ys = cond (nat_lt row_limit (length xs + length ys)) (refused 1 1 selection) (Ok tt)
+
+-- what it is refused by wherever its result is to stand: and_then where the lengths differ, joining where the parts are too long
+abbrev pub wrong : Operation → Verdict
+wrong (op.Convert a) = Ok tt
+wrong (op.Narrow a b) = matched (selection_rows a) (selection_rows b)
+wrong (op.And a b) = Ok tt
+wrong (op.Or a b) = Ok tt
+wrong (op.Join a b) = few_together (selection_rows a) (selection_rows b)
+wrong (op.Offset a n) = Ok tt
+wrong (op.Limit a n) = Ok tt
+wrong (op.Trim a) = Ok tt

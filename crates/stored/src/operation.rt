@@ -1,9 +1,12 @@
 // Operations that wait for a place.
-ghost use Rattle.std.specs.Prelude.{◌≡◌, Bool, List, ◌&&◌};
+ghost use Rattle.std.specs.Prelude.{◌≡◌, ◌≢◌, ℕ, Bool, List, ◌&&◌, Ok};
+ghost use Rattle.refusals.specs.declared.refusal.Layer.{Layer};
+ghost use Rattle.refusals.specs.Refusals.{refused};
 ghost use Rattle.rows.specs.Rules.{combine};
-ghost use Rattle.runs.specs.Sinks.{Sink, Verdict, Writes, placed};
+ghost use Rattle.runs.specs.Sinks.{Verdict, Writes, placed, then_placed};
 ghost use Rattle.selections.specs.Forms.{selection_rows};
-ghost use Rattle.stored.specs.Makes.{made as rows_made, masked, natural_mask, answers};
+ghost use Rattle.stored.specs.Makes.{made as rows_made, masked, natural_mask, wrong as refused_by};
+ghost use Rattle.stored.specs.Shown.{fine-not-12, wrong-not-12};
 
 use cuts::trimming::Trimming;
 use policies::policy::Policy;
@@ -19,8 +22,11 @@ pub trait Operate: Copy {
     // whether it is a mask where no form is asked for
     ghost natural: { Self → Bool };
 
-    // what its call answers in a sink
-    ghost answered: { (S : Type 0) → Sink S → S → Self → Verdict };
+    // what it is refused by wherever the result is to stand, before the place is asked
+    ghost wrong: { Self → Verdict };
+
+    // that is never a place too small
+    ghost other: { (o : Self) (n : ℕ) (l : Layer) → wrong o ≢ refused 12 n l };
 
     // Whether its result is a mask where no form is asked for.
     fn is_mask(&self) -> bool
@@ -28,7 +34,7 @@ pub trait Operate: Copy {
 
     // Writes its result, or refuses and leaves the sink as it is.
     fn write<K: WordSink>(&self, out: &mut K) -> Result<(), SelectionFault>
-        ensures { Writes K.sink out.old (answered K K.sink out.old self.now) (made self.now) result out.new };
+        ensures { Writes K.sink out.old (then_placed (wrong self.now) (placed K.sink out.old (made self.now))) (made self.now) result out.new };
 }
 
 // What makes a selection of one or two others.
@@ -49,7 +55,9 @@ impl<'a> Operate for Operation<'a> {
 
     ghost natural = { natural_mask };
 
-    ghost answered = { λ _ k s o. answers k s o };
+    ghost wrong = { refused_by };
+
+    ghost other = { wrong-not-12 };
 
     fn is_mask(&self) -> bool {
         match self {
@@ -91,7 +99,9 @@ impl<'a, 'b, P: Policy> Operate for Combine<'a, 'b, P> {
 
     ghost natural = { λ c. masked c.first && masked c.second };
 
-    ghost answered = { λ _ k s c. placed k s (combine P.rule (selection_rows c.first) (selection_rows c.second)) };
+    ghost wrong = { λ _. Ok tt };
+
+    ghost other = { λ _. fine-not-12 };
 
     fn is_mask(&self) -> bool {
         self.first.is_mask() && self.second.is_mask()

@@ -1,8 +1,13 @@
 // Memory for results: as much as they need, up to a bound.
-ghost use Rattle.std.specs.Prelude.{◌≡◌, Bool, List, Ok, IfOk};
+ghost use Rattle.std.specs.Prelude.{◌≡◌, Bool, List, length, Ok, IfOk};
+ghost use Rattle.refusals.specs.Refusals.{bits};
+ghost use Rattle.runs.specs.Sinks.{Verdict, placed, priced, admitted};
 ghost use Rattle.bits.specs.Bits.{mask_rows};
 ghost use Rattle.bits.specs.Masks.{mask_verdict};
+ghost use Rattle.masks.specs.Spares.{bytes_of};
+ghost use Rattle.stored.specs.declared.room.Room.TheVariants.{Runs, Mask};
 ghost use Rattle.stored.specs.Rows.{rows_of_runs, rows_of_mask, stored_rows};
+ghost use Rattle.stored.specs.Ends.{Ends, Needs, Serves, in_turn, fitted};
 
 use crate::bytes::StoredMask;
 use crate::held::Stored;
@@ -10,7 +15,7 @@ use crate::operation::Operate;
 use crate::stored_runs::StoredRuns;
 use crate::trouble::Trouble;
 use masks::place::MaskPlace;
-use refusals::fault::{BitsFault, SelectionFault};
+use refusals::fault::SelectionFault;
 use rows::selector::RowSelector;
 use runs::run_place::RunPlace;
 use std::alloc::Global;
@@ -27,22 +32,39 @@ pub enum Room {
 pub(crate) trait Fill {
     type Told: Drop;
 
-    // what is told where these rows were written
-    ghost filled: { Self → List Bool → Self.Told → Self → Type 0 };
+    // the rows that it writes
+    ghost written: { Self → List Bool };
+
+    // what it is refused by before its sink is asked for room, and after
+    ghost before: { Self → Verdict };
+
+    ghost after: { Self → Verdict };
+
+    // what is told where the rows were written
+    ghost filled: { Self → Self.Told → Self → Type 0 };
 
     fn fill<K: WordSink>(&mut self, out: &mut K) -> Result<Self::Told, Trouble>
-        ensures rows { IfOk result (λ t. filled self.old (K.sink.rows out.new) t self.new) }
+        ensures verdict { Ends (in_turn (before self.old) (placed K.sink out.old (written self.old)) (after self.old)) result }
+        ensures rows { IfOk result (λ _. K.sink.rows out.new ≡ written self.old) }
+        ensures told { IfOk result (λ t. filled self.old t self.new) }
         ensures rest { IfOk result (λ _. K.sink.keeps out.old out.new) };
 }
 
-// What the result of an operation needs in the form of an empty sink.
-fn needed<O: Operate, K: WordSink>(of: &O, empty: &mut K) -> Result<usize, SelectionFault> {
+// What the result of an operation needs in the form of an empty sink, which has no room.
+fn needed<O: Operate, K: WordSink>(of: &O, empty: &mut K) -> Result<usize, SelectionFault>
+    requires { K.sink.capacity empty.old ≡ 0 }
+    ensures { Needs (O.wrong of.now) (priced K.sink.cost (O.made of.now)) result }
+{
     match of.write(empty) {
         Ok(()) => Ok(0),
-        Err(SelectionFault::PlaceTooSmall(n) | SelectionFault::Bits(BitsFault::BytesTooFew(n))) => {
-            Ok(n)
+        Err(fault) => {
+            let refusal = fault.refusal();
+            if refusal.number == 12 {
+                Ok(refusal.place)
+            } else {
+                Err(fault)
+            }
         }
-        Err(fault) => Err(fault),
     }
 }
 
@@ -53,7 +75,10 @@ pub(crate) fn in_runs<O: Operate, J: Fill>(
     most: usize,
     job: &mut J,
 ) -> Result<(StoredRuns, J::Told), Trouble>
-    ensures { IfOk result (λ t. J.filled job.old (rows_of_runs t.0) t.1 job.new) }
+    requires { Serves (O.wrong of.now) (O.made of.now) (J.before job.old) (J.written job.old) }
+    ensures verdict { Ends (in_turn (J.before job.old) (fitted (Runs most) (J.written job.old)) (J.after job.old)) result }
+    ensures rows { IfOk result (λ t. rows_of_runs t.0 ≡ J.written job.old) }
+    ensures told { IfOk result (λ t. J.filled job.old t.1 job.new) }
 {
     let needed = needed(of, &mut RunPlace::new(&mut []))?;
     let mut slots = vec![in heap; RowSelector::skip(0); needed.min(most)]?;
@@ -71,7 +96,9 @@ fn held(place: &MaskPlace<'_>) -> usize
 
 // A job's rows from bit 0 of the bytes on; how many they are, and what it tells.
 fn fill_bytes<J: Fill>(bytes: &mut [u8], job: &mut J) -> Result<(usize, J::Told), Trouble>
-    ensures rows { IfOk result (λ t. J.filled job.old (mask_rows bytes.new 0 t.0) t.1 job.new) }
+    ensures verdict { Ends (in_turn (J.before job.old) (admitted bits (length bytes.old) (bytes_of (length (J.written job.old)))) (J.after job.old)) result }
+    ensures rows { IfOk result (λ t. mask_rows bytes.new 0 t.0 ≡ J.written job.old) }
+    ensures told { IfOk result (λ t. J.filled job.old t.1 job.new) }
     ensures sound { IfOk result (λ t. mask_verdict bytes.new 0 t.0 ≡ Ok tt) }
 {
     let mut place = MaskPlace::new(bytes);
@@ -86,7 +113,10 @@ pub(crate) fn in_mask<O: Operate, J: Fill>(
     most: usize,
     job: &mut J,
 ) -> Result<(StoredMask, J::Told), Trouble>
-    ensures { IfOk result (λ t. J.filled job.old (rows_of_mask t.0) t.1 job.new) }
+    requires { Serves (O.wrong of.now) (O.made of.now) (J.before job.old) (J.written job.old) }
+    ensures verdict { Ends (in_turn (J.before job.old) (fitted (Mask most) (J.written job.old)) (J.after job.old)) result }
+    ensures rows { IfOk result (λ t. rows_of_mask t.0 ≡ J.written job.old) }
+    ensures told { IfOk result (λ t. J.filled job.old t.1 job.new) }
 {
     let needed = needed(of, &mut MaskPlace::new(&mut []))?;
     let mut bytes = vec![in heap; 0u8; needed.min(most)]?;
@@ -104,7 +134,10 @@ pub(crate) fn in_room<O: Operate, J: Fill>(
     room: Room,
     job: &mut J,
 ) -> Result<(Stored, J::Told), Trouble>
-    ensures { IfOk result (λ t. J.filled job.old (stored_rows t.0) t.1 job.new) }
+    requires { Serves (O.wrong of.now) (O.made of.now) (J.before job.old) (J.written job.old) }
+    ensures verdict { Ends (in_turn (J.before job.old) (fitted room (J.written job.old)) (J.after job.old)) result }
+    ensures rows { IfOk result (λ t. stored_rows t.0 ≡ J.written job.old) }
+    ensures told { IfOk result (λ t. J.filled job.old t.1 job.new) }
 {
     match room {
         Room::Runs(most) => {

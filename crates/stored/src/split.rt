@@ -1,7 +1,9 @@
 // A selection split in two, each part with as much memory as it needs.
-ghost use Rattle.std.specs.Prelude.{◌≡◌, IfOk};
+ghost use Rattle.std.specs.Prelude.{◌≡◌, Ok, IfOk};
 ghost use Rattle.rows.specs.Rules.{split_front, split_rest};
+ghost use Rattle.runs.specs.Sinks.{placed, then_placed};
 ghost use Rattle.selections.specs.Forms.{selection_rows};
+ghost use Rattle.stored.specs.Ends.{Ends, fitted};
 ghost use Rattle.stored.specs.Rows.{stored_rows};
 
 use crate::held::Stored;
@@ -41,7 +43,13 @@ impl<'s, 'f, F: WordSink> Rest<'s, 'f, F> {
 impl<'a> Fill for Front<'a> {
     type Told = Stored;
 
-    ghost filled = { λ f xs s _. (xs ≡ split_front f.n (selection_rows f.of)) × (stored_rows s ≡ split_rest f.n (selection_rows f.of)) };
+    ghost written = { λ f. split_front f.n (selection_rows f.of) };
+
+    ghost before = { λ _. Ok tt };
+
+    ghost after = { λ f. fitted f.rest (split_rest f.n (selection_rows f.of)) };
+
+    ghost filled = { λ f s _. stored_rows s ≡ split_rest f.n (selection_rows f.of) };
 
     fn fill<K: WordSink>(&mut self, out: &mut K) -> Result<Stored, Trouble> {
         let of = self.of;
@@ -54,7 +62,14 @@ impl<'a> Fill for Front<'a> {
 impl<'s, 'f, F: WordSink> Fill for Rest<'s, 'f, F> {
     type Told = ();
 
-    ghost filled = { λ r ys _ t. (ys ≡ split_rest r.n (selection_rows r.of.now)) × (F.sink.rows t.front.now ≡ split_front r.n (selection_rows r.of.now)) × F.sink.keeps r.front.now t.front.now × (t.front.ghost_name ≡ r.front.ghost_name) };
+    ghost written = { λ r. split_rest r.n (selection_rows r.of.now) };
+
+    // the first part's sink is asked first
+    ghost before = { λ r. placed F.sink r.front.now (split_front r.n (selection_rows r.of.now)) };
+
+    ghost after = { λ _. Ok tt };
+
+    ghost filled = { λ r _ t. (F.sink.rows t.front.now ≡ split_front r.n (selection_rows r.of.now)) × F.sink.keeps r.front.now t.front.now × (t.front.ghost_name ≡ r.front.ghost_name) };
 
     fn fill<K: WordSink>(&mut self, out: &mut K) -> Result<(), Trouble> {
         self.of.split_off(self.n, &mut *self.front, out)?;
@@ -70,6 +85,7 @@ pub fn split_stored(
     front: Room,
     rest: Room,
 ) -> Result<(Stored, Stored), Trouble>
+    ensures verdict { Ends (then_placed (fitted front (split_front n (selection_rows selection.entry))) (fitted rest (split_rest n (selection_rows selection.entry)))) result }
     ensures front { IfOk result (λ t. stored_rows t.0 ≡ split_front n (selection_rows selection.entry)) }
     ensures rest { IfOk result (λ t. stored_rows t.1 ≡ split_rest n (selection_rows selection.entry)) }
 {
