@@ -1,4 +1,7 @@
 // Why a line is not carried out.
+ghost use Rattle.std.specs.Prelude.{◌≡◌};
+ghost use Rattle.script.specs.declared.no.No.TheVariants.{Refused, NoMemory, Io};
+
 use refusals::fault::SelectionFault;
 use std::alloc::{AllocError, AllocFailed};
 use std::io;
@@ -12,21 +15,41 @@ pub(crate) enum No {
     #[error("misuse")]
     Misuse,
     #[error("refused {}", .0.refusal())]
-    Refused(#[from] SelectionFault),
+    Refused(SelectionFault),
     #[error("no memory")]
     NoMemory,
     #[error(transparent)]
-    Io(#[from] io::Error),
+    Io(io::Error),
 }
 
-// Written out, since `WordError` tells want of memory without an `AllocError` to hold.
+// These are written out, since contracts name what `?` makes, and a derived `From` has no contract.
+impl From<SelectionFault> for No {
+    ghost from_gives = { λ f no. no ≡ Refused f };
+
+    fn from(fault: SelectionFault) -> No {
+        No::Refused(fault)
+    }
+}
+
+impl From<io::Error> for No {
+    ghost from_gives = { λ e no. no ≡ Io e };
+
+    fn from(error: io::Error) -> No {
+        No::Io(error)
+    }
+}
+
 impl From<AllocError> for No {
+    ghost from_gives = { λ _ no. no ≡ NoMemory };
+
     fn from(_: AllocError) -> No {
         No::NoMemory
     }
 }
 
 impl<T: Drop> From<AllocFailed<T>> for No {
+    ghost from_gives = { λ _ no. no ≡ NoMemory };
+
     fn from(_: AllocFailed<T>) -> No {
         No::NoMemory
     }

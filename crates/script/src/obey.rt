@@ -1,4 +1,6 @@
 // The commands, and what carries each of them out.
+ghost use Rattle.script.specs.Kept.{Kept};
+
 use crate::args::Args;
 use crate::fill::{mask_drawn, runs_drawn};
 use crate::make::{mask_of, ranges_of, runs_of};
@@ -10,7 +12,9 @@ use stored::operation::Operation;
 
 impl<W: Write + Drop> Session<W> {
     // Commands of an opened selection come with readers, and are misuse until then.
-    pub(crate) fn obey(&mut self, verb: Verb, args: Args<'_>) -> Result<(), No> {
+    pub(crate) fn obey(&mut self, verb: Verb, args: Args<'_>) -> Result<(), No>
+        ensures { Kept result self.old.slots self.new.slots }
+    {
         match verb {
             Verb::Reset => self.reset(),
             Verb::Runs => self.put(args, runs_of(self.heap, args)?),

@@ -1,4 +1,6 @@
 // Commands that tell the pages a selection needs.
+ghost use Rattle.std.specs.Prelude.{◌≡◌};
+
 use crate::args::Args;
 use crate::no::No;
 use crate::session::Session;
@@ -9,7 +11,9 @@ use std::io::Write;
 
 impl<W: Write + Drop> Session<W> {
     // The first n of the ranges.
-    fn tell_ranges<T: Display>(&mut self, ranges: &[Span<T>], n: usize) -> Result<(), No> {
+    fn tell_ranges<T: Display>(&mut self, ranges: &[Span<T>], n: usize) -> Result<(), No>
+        ensures { self.new.slots ≡ self.old.slots }
+    {
         self.out.write_all(b"ranges")?;
         for range in ranges.iter().take(n) {
             write!(self.out, " {} {}", range.start, range.end)?;
@@ -18,7 +22,9 @@ impl<W: Write + Drop> Session<W> {
     }
 
     // The byte ranges of the pages that hold a selected row; there are no more than pages.
-    pub(crate) fn tell_scan(&mut self, args: Args<'_>) -> Result<(), No> {
+    pub(crate) fn tell_scan(&mut self, args: Args<'_>) -> Result<(), No>
+        ensures { self.new.slots ≡ self.old.slots }
+    {
         let selection = self.slots.selection(args.slot(0)?)?;
         let pages = args.pages()?;
         let most = pages.len().min(args.number(1)?);
@@ -28,7 +34,9 @@ impl<W: Write + Drop> Session<W> {
     }
 
     // The rows of those pages.
-    pub(crate) fn tell_page_rows(&mut self, args: Args<'_>) -> Result<(), No> {
+    pub(crate) fn tell_page_rows(&mut self, args: Args<'_>) -> Result<(), No>
+        ensures { self.new.slots ≡ self.old.slots }
+    {
         let selection = self.slots.selection(args.slot(0)?)?;
         let pages = args.pages()?;
         let most = pages.len().min(args.number(1)?);

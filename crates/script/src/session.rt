@@ -1,4 +1,6 @@
 // The run of a script: what its slots hold, and where its answers go.
+ghost use Rattle.script.specs.Kept.{Kept};
+
 use crate::args::Args;
 use crate::no::No;
 use crate::slots::Slots;
@@ -32,7 +34,9 @@ impl<W: Write + Drop> Session<W> {
         }
     }
 
-    fn carry_out(&mut self, line: &[u8]) -> Result<(), No> {
+    fn carry_out(&mut self, line: &[u8]) -> Result<(), No>
+        ensures { Kept result self.old.slots self.new.slots }
+    {
         match parse(self.heap, line)? {
             Some(command) => self.obey(command.verb, Args::of(&command)),
             None => Ok(()),

@@ -1,4 +1,6 @@
 // Commands that tell something of a selection.
+ghost use Rattle.std.specs.Prelude.{◌≡◌};
+
 use crate::args::Args;
 use crate::digest::{digest, write_runs};
 use crate::no::No;
@@ -20,7 +22,9 @@ fn write_bytes<W: Write>(out: &mut W, bytes: &[u8]) -> io::Result<()> {
 }
 
 impl<W: Write + Drop> Session<W> {
-    pub(crate) fn tell_rows(&mut self, args: Args<'_>) -> Result<(), No> {
+    pub(crate) fn tell_rows(&mut self, args: Args<'_>) -> Result<(), No>
+        ensures { self.new.slots ≡ self.old.slots }
+    {
         let selection = self.slots.selection(args.slot(0)?)?;
         self.out.write_all(b"rows")?;
         write_runs(&mut self.out, selection)?;
@@ -28,7 +32,9 @@ impl<W: Write + Drop> Session<W> {
     }
 
     // The rows as a mask from bit 0 on.
-    pub(crate) fn tell_bytes(&mut self, args: Args<'_>) -> Result<(), No> {
+    pub(crate) fn tell_bytes(&mut self, args: Args<'_>) -> Result<(), No>
+        ensures { self.new.slots ≡ self.old.slots }
+    {
         let selection = self.slots.selection(args.slot(0)?)?;
         let mask = into_mask(self.heap, Operation::Convert(selection), args.number(1)?)?;
         self.out.write_all(b"bytes ")?;
@@ -36,7 +42,9 @@ impl<W: Write + Drop> Session<W> {
         Ok(self.out.write_all(b"\n")?)
     }
 
-    pub(crate) fn tell_count(&mut self, args: Args<'_>) -> Result<(), No> {
+    pub(crate) fn tell_count(&mut self, args: Args<'_>) -> Result<(), No>
+        ensures { self.new.slots ≡ self.old.slots }
+    {
         let selection = self.slots.selection(args.slot(0)?)?;
         let all = selection.total_row_count();
         let selected = selection.row_count();
@@ -44,7 +52,9 @@ impl<W: Write + Drop> Session<W> {
         Ok(writeln!(self.out, "count {selected} {all} {any}")?)
     }
 
-    pub(crate) fn tell_sum(&mut self, args: Args<'_>) -> Result<(), No> {
+    pub(crate) fn tell_sum(&mut self, args: Args<'_>) -> Result<(), No>
+        ensures { self.new.slots ≡ self.old.slots }
+    {
         let selection = self.slots.selection(args.slot(0)?)?;
         let all = selection.total_row_count();
         let selected = selection.row_count();
@@ -52,21 +62,27 @@ impl<W: Write + Drop> Session<W> {
         Ok(writeln!(self.out, "sum {all} {selected} {runs} {hash}")?)
     }
 
-    pub(crate) fn tell_equal(&mut self, args: Args<'_>) -> Result<(), No> {
+    pub(crate) fn tell_equal(&mut self, args: Args<'_>) -> Result<(), No>
+        ensures { self.new.slots ≡ self.old.slots }
+    {
         let first = self.slots.selection(args.slot(0)?)?;
         let second = self.slots.selection(args.slot(1)?)?;
         let equal = u8::from(first.equals(&second));
         Ok(writeln!(self.out, "eq {equal}")?)
     }
 
-    pub(crate) fn tell_strategy(&mut self, args: Args<'_>) -> Result<(), No> {
+    pub(crate) fn tell_strategy(&mut self, args: Args<'_>) -> Result<(), No>
+        ensures { self.new.slots ≡ self.old.slots }
+    {
         let selection = self.slots.selection(args.slot(0)?)?;
         let strategy = selection.auto_selection_strategy(args.number(1)?);
         Ok(writeln!(self.out, "strategy {strategy}")?)
     }
 
     // The place behind the n-th selected row of a mask.
-    pub(crate) fn tell_nth(&mut self, args: Args<'_>) -> Result<(), No> {
+    pub(crate) fn tell_nth(&mut self, args: Args<'_>) -> Result<(), No>
+        ensures { self.new.slots ≡ self.old.slots }
+    {
         let selection = self.slots.selection(args.slot(0)?)?;
         let mask = selection.mask().ok_or(No::Misuse)?;
         let position = mask.find_nth_set_bit_position(args.number(1)?);

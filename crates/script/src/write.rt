@@ -1,4 +1,7 @@
 // Commands that write slots.
+ghost use Rattle.std.specs.Prelude.{◌≡◌};
+ghost use Rattle.script.specs.Kept.{Kept, WriteFailed};
+
 use crate::args::Args;
 use crate::no::No;
 use crate::session::Session;
@@ -27,23 +30,32 @@ fn result(heap: Global, operation: Operation<'_>, place: Place) -> Result<Stored
 }
 
 impl<W: Write + Drop> Session<W> {
-    fn done(&mut self) -> Result<(), No> {
+    fn done(&mut self) -> Result<(), No>
+        ensures slots { self.new.slots ≡ self.old.slots }
+        ensures failed { WriteFailed result }
+    {
         Ok(self.out.write_all(b"ok\n")?)
     }
 
     // What was made, into the slot that is named first.
-    pub(crate) fn put(&mut self, args: Args<'_>, made: Stored) -> Result<(), No> {
+    pub(crate) fn put(&mut self, args: Args<'_>, made: Stored) -> Result<(), No>
+        ensures { Kept result self.old.slots self.new.slots }
+    {
         self.slots.put(args.slot(0)?, made);
         self.done()
     }
 
-    pub(crate) fn reset(&mut self) -> Result<(), No> {
+    pub(crate) fn reset(&mut self) -> Result<(), No>
+        ensures { Kept result self.old.slots self.new.slots }
+    {
         self.slots.reset();
         self.done()
     }
 
     // The same rows in the same form.
-    pub(crate) fn copy(&mut self, args: Args<'_>) -> Result<(), No> {
+    pub(crate) fn copy(&mut self, args: Args<'_>) -> Result<(), No>
+        ensures { Kept result self.old.slots self.new.slots }
+    {
         let made = self.slots.get(args.slot(1)?)?.copy(self.heap)?;
         self.put(args, made)
     }
@@ -57,6 +69,7 @@ impl<W: Write + Drop> Session<W> {
         operation: F,
     ) -> Result<(), No>
         requires { F.IsAlwaysCallable operation }
+        ensures { Kept result self.old.slots self.new.slots }
     {
         let of = self.slots.selection(args.slot(slot)?)?;
         let made = result(self.heap, operation(of), args.place(place)?)?;
@@ -70,6 +83,7 @@ impl<W: Write + Drop> Session<W> {
         operation: F,
     ) -> Result<(), No>
         requires { F.IsAlwaysCallable operation }
+        ensures { Kept result self.old.slots self.new.slots }
     {
         let of = self.slots.selection(args.slot(0)?)?;
         let made = result(self.heap, operation(of, args.number(1)?), args.place(2)?)?;
@@ -83,6 +97,7 @@ impl<W: Write + Drop> Session<W> {
         operation: F,
     ) -> Result<(), No>
         requires { F.IsAlwaysCallable operation }
+        ensures { Kept result self.old.slots self.new.slots }
     {
         let first = self.slots.selection(args.slot(1)?)?;
         let second = self.slots.selection(args.slot(2)?)?;
@@ -91,7 +106,9 @@ impl<W: Write + Drop> Session<W> {
     }
 
     // The first rows into one slot, and the rest into the slot they came from.
-    pub(crate) fn split(&mut self, args: Args<'_>) -> Result<(), No> {
+    pub(crate) fn split(&mut self, args: Args<'_>) -> Result<(), No>
+        ensures { Kept result self.old.slots self.new.slots }
+    {
         let front = args.slot(0)?;
         let rest = args.slot(1)?;
         if front == rest {

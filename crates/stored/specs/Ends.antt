@@ -1,5 +1,5 @@
 -- How a call ends that takes memory for its result.
-use Rattle.std.specs.Prelude.{◌≡◌, ℕ, ◌≤◌, Bool, List, length, Ok, Err, Result}
+use Rattle.std.specs.Prelude.{◌≡◌, ℕ, ◌≤◌, Bool, true, false, List, length, Ok, Err, Result}
 use Rattle.refusals.specs.declared.fault.SelectionFault.{SelectionFault}
 use Rattle.refusals.specs.Refusals.{bits, selection, told_selection}
 use Rattle.rows.specs.Rows.{count_runs}
@@ -9,6 +9,11 @@ use Rattle.stored.specs.declared.room.Room.{Room}
 use Rattle.stored.specs.declared.room.Room.TheVariants.{Runs, Mask}
 use Rattle.stored.specs.declared.trouble.Trouble.{Trouble}
 use Rattle.stored.specs.declared.trouble.Trouble.TheVariants.{Refused, NoMemory}
+
+-- whether a result there is a mask
+abbrev pub masked_in : Room → Bool
+masked_in (Runs most) = false
+masked_in (Mask most) = true
 
 -- what a place of so many runs or bytes says of the rows xs: 12 where they need more
 abbrev pub fitted : Room → List Bool → Verdict

@@ -2,8 +2,8 @@
 ghost use Rattle.std.specs.Prelude.{◌≡◌, Ok, IfOk};
 ghost use Rattle.runs.specs.Sinks.{then_placed};
 ghost use Rattle.stored.specs.declared.room.Room.TheVariants.{Runs, Mask};
-ghost use Rattle.stored.specs.Ends.{Ends, fitted};
-ghost use Rattle.stored.specs.Rows.{rows_of_runs, rows_of_mask, stored_rows};
+ghost use Rattle.stored.specs.Ends.{Ends, fitted, masked_in};
+ghost use Rattle.stored.specs.Rows.{rows_of_runs, rows_of_mask, stored_rows, in_mask as held_in_mask};
 
 use crate::bytes::StoredMask;
 use crate::held::Stored;
@@ -59,6 +59,7 @@ pub fn into_mask<O: Operate>(heap: Global, operation: O, most: usize) -> Result<
 pub fn perform<O: Operate>(heap: Global, operation: O, room: Room) -> Result<Stored, Trouble>
     ensures verdict { Ends (then_placed (O.wrong operation) (fitted room (O.made operation))) result }
     ensures rows { IfOk result (λ s. stored_rows s ≡ O.made operation) }
+    ensures form { IfOk result (λ s. held_in_mask s ≡ masked_in room) }
 {
     let (stored, ()) = in_room(heap, &operation, room, &mut Whole { of: operation })?;
     Ok(stored)

@@ -6,8 +6,8 @@ ghost use Rattle.bits.specs.Bits.{mask_rows};
 ghost use Rattle.bits.specs.Masks.{mask_verdict};
 ghost use Rattle.masks.specs.Spares.{bytes_of};
 ghost use Rattle.stored.specs.declared.room.Room.TheVariants.{Runs, Mask};
-ghost use Rattle.stored.specs.Rows.{rows_of_runs, rows_of_mask, stored_rows};
-ghost use Rattle.stored.specs.Ends.{Ends, Needs, Serves, in_turn, fitted};
+ghost use Rattle.stored.specs.Rows.{rows_of_runs, rows_of_mask, stored_rows, in_mask as held_in_mask};
+ghost use Rattle.stored.specs.Ends.{Ends, Needs, Serves, in_turn, fitted, masked_in};
 
 use crate::bytes::StoredMask;
 use crate::held::Stored;
@@ -137,6 +137,7 @@ pub(crate) fn in_room<O: Operate, J: Fill>(
     requires { Serves (O.wrong of.now) (O.made of.now) (J.before job.old) (J.written job.old) }
     ensures verdict { Ends (in_turn (J.before job.old) (fitted room (J.written job.old)) (J.after job.old)) result }
     ensures rows { IfOk result (λ t. stored_rows t.0 ≡ J.written job.old) }
+    ensures form { IfOk result (λ t. held_in_mask t.0 ≡ masked_in room) }
     ensures told { IfOk result (λ t. J.filled job.old t.1 job.new) }
 {
     match room {

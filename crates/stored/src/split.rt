@@ -3,8 +3,8 @@ ghost use Rattle.std.specs.Prelude.{◌≡◌, Ok, IfOk};
 ghost use Rattle.rows.specs.Rules.{split_front, split_rest};
 ghost use Rattle.runs.specs.Sinks.{placed, then_placed};
 ghost use Rattle.selections.specs.Forms.{selection_rows};
-ghost use Rattle.stored.specs.Ends.{Ends, fitted};
-ghost use Rattle.stored.specs.Rows.{stored_rows};
+ghost use Rattle.stored.specs.Ends.{Ends, fitted, masked_in};
+ghost use Rattle.stored.specs.Rows.{stored_rows, in_mask};
 
 use crate::held::Stored;
 use crate::operation::Operation;
@@ -49,7 +49,7 @@ impl<'a> Fill for Front<'a> {
 
     ghost after = { λ f. fitted f.rest (split_rest f.n (selection_rows f.of)) };
 
-    ghost filled = { λ f s _. stored_rows s ≡ split_rest f.n (selection_rows f.of) };
+    ghost filled = { λ f s _. (stored_rows s ≡ split_rest f.n (selection_rows f.of)) × (in_mask s ≡ masked_in f.rest) };
 
     fn fill<K: WordSink>(&mut self, out: &mut K) -> Result<Stored, Trouble> {
         let of = self.of;
@@ -88,6 +88,7 @@ pub fn split_stored(
     ensures verdict { Ends (then_placed (fitted front (split_front n (selection_rows selection.entry))) (fitted rest (split_rest n (selection_rows selection.entry)))) result }
     ensures front { IfOk result (λ t. stored_rows t.0 ≡ split_front n (selection_rows selection.entry)) }
     ensures rest { IfOk result (λ t. stored_rows t.1 ≡ split_rest n (selection_rows selection.entry)) }
+    ensures forms { IfOk result (λ t. (in_mask t.0 ≡ masked_in front) × (in_mask t.1 ≡ masked_in rest)) }
 {
     in_room(
         heap,

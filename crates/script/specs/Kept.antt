@@ -1,0 +1,21 @@
+-- What a command leaves as it was.
+use Rattle.std.specs.Prelude.{◌≡◌, Ok, Err, Result}
+use Rattle.script.specs.declared.no.No.{No}
+use Rattle.script.specs.declared.no.No.TheVariants.{Misuse, Refused, NoMemory, Io}
+use Rattle.script.specs.declared.slots.Slots.{Slots}
+
+-- a command that is misused or refused, of which the run goes on, changes no slot
+abbrev pub Kept : {X : Type 0} → Result X No → Slots → Slots → Type 0
+Kept (Ok x) s t = Unit {0}
+Kept (Err Misuse) s t = t ≡ s
+Kept (Err (Refused f)) s t = t ≡ s
+Kept (Err NoMemory) s t = Unit {0}
+Kept (Err (Io e)) s t = Unit {0}
+
+-- it is a write that failed, if anything
+abbrev pub WriteFailed : {X : Type 0} → Result X No → Type 0
+WriteFailed (Ok x) = Unit {0}
+WriteFailed (Err Misuse) = ⊥
+WriteFailed (Err (Refused f)) = ⊥
+WriteFailed (Err NoMemory) = ⊥
+WriteFailed (Err (Io e)) = Unit {0}
