@@ -1,1 +1,2 @@
-pub mod Both
+pub mod Asked
+pub mod Combined

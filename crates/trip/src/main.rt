@@ -1,15 +1,16 @@
-// Narrows one survey trip by two filters, and names the pages to fetch, in runs and in a mask.
+// Narrows one trip by the filters of two surveys, and names the pages to fetch, in runs and in masks.
 #![tactic(auto)]
 
-mod form;
 mod narrow;
 mod picture;
 mod report;
+mod steps;
 
-use crate::narrow::{narrow_masks, narrow_runs};
+use crate::narrow::narrow;
 use crate::report::print_report;
 use anyhow::{Context, anyhow};
 use std::{env, fs};
+use stored::room::Room;
 use tripfile::fault::TripFault;
 use tripfile::read::read_trip;
 
@@ -25,8 +26,11 @@ fn main(rt: HostRuntime) -> anyhow::Result<()> {
     let text = fs::read_to_string(&rt, path)?;
     let heap = rt.alloc();
     let trip = read_trip(heap, text.as_str()).map_err(|fault| told(path, fault))?;
-    let runs = narrow_runs(heap, &trip).map_err(|fault| told(path, fault))?;
-    let masks = narrow_masks(heap, &trip).map_err(|fault| told(path, fault))?;
+    // A result takes no more memory than it needs, so neither form has a bound.
+    let in_runs = narrow(heap, &trip, Room::Runs(usize::MAX));
+    let in_masks = narrow(heap, &trip, Room::Mask(usize::MAX));
+    let runs = in_runs.map_err(|fault| told(path, fault))?;
+    let masks = in_masks.map_err(|fault| told(path, fault))?;
     print_report(&rt, &trip, &runs, &masks)?;
     Ok(())
 }

@@ -1,21 +1,50 @@
 // What the program says of a trip.
 use crate::narrow::Found;
 use crate::picture::{pages_line, rows_line};
+use crate::steps::{Step, Surveyed};
 use pages::page::ByteRange;
 use rows::range::RowRange;
-use rows::selector::RowSelector;
 use std::io;
-use tripfile::trip::{Column, Trip};
+use tripfile::trip::{Column, Survey, Trip};
 
 // Rows to a line of the picture.
 const WIDTH: usize = 64;
 
-fn print_runs(rt: &HostRuntime, runs: &[RowSelector]) -> io::Result<()> {
-    print!(rt; "runs:")?;
-    for run in runs {
+fn print_step(rt: &HostRuntime, step: &Step, of: usize) -> io::Result<()> {
+    let kept = step.kept;
+    print!(rt; "{kept} of {of} rows kept:")?;
+    for run in step.runs.iter() {
         print!(rt; " {run}")?;
     }
     println!(rt; "")
+}
+
+fn print_survey(
+    rt: &HostRuntime,
+    survey: &Survey,
+    steps: &Surveyed,
+    shots: usize,
+) -> io::Result<()> {
+    let name = survey.name.as_str();
+    print!(rt; "survey {name}, first filter: ")?;
+    print_step(rt, &steps.first, shots)?;
+    print!(rt; "survey {name}, second filter: ")?;
+    print_step(rt, &steps.both, steps.first.kept)
+}
+
+// What each survey keeps, what both and what one or the other, and which of these are asked for.
+fn print_steps(rt: &HostRuntime, trip: &Trip, found: &Found) -> io::Result<()> {
+    let shots = trip.shots.len();
+    print_survey(rt, &trip.first, &found.first, shots)?;
+    print_survey(rt, &trip.second, &found.second, shots)?;
+    print!(rt; "both surveys: ")?;
+    print_step(rt, &found.by_both, shots)?;
+    print!(rt; "one survey or the other: ")?;
+    print_step(rt, &found.by_either, shots)?;
+    let first = trip.window.first;
+    let last = trip.window.last;
+    print!(rt; "shots {first} to {last}: ")?;
+    print_step(rt, &found.asked, found.by_either.kept)
 }
 
 // The bytes of these ranges.
@@ -57,7 +86,7 @@ fn print_picture(rt: &HostRuntime, trip: &Trip, found: &Found) -> io::Result<()>
             start,
             end: total.min(start.saturating_add(WIDTH)),
         };
-        let kept = rows_line(heap, found.runs.as_slice(), rows)?;
+        let kept = rows_line(heap, found.asked.runs.as_slice(), rows)?;
         println!(rt; "{start:>12} {kept}")?;
         for (column, ranges) in trip.columns.iter().zip(found.ranges.iter()) {
             let line = pages_line(heap, column, ranges.as_slice(), rows)?;
@@ -76,19 +105,15 @@ pub(crate) fn print_report(
 ) -> io::Result<()> {
     let name = trip.name.as_str();
     let shots = trip.shots.len();
-    let first = runs.first;
-    let second = runs.second;
     println!(rt; "trip {name}: {shots} shots")?;
-    println!(rt; "first filter: {first} of {shots} rows kept")?;
-    println!(rt; "second filter: {second} of {first} rows kept")?;
-    print_runs(rt, runs.runs.as_slice())?;
+    print_steps(rt, trip, runs)?;
     let threshold = trip.threshold;
     let strategy = runs.strategy;
     println!(rt; "strategy at threshold {threshold}: {strategy}")?;
     for (column, ranges) in trip.columns.iter().zip(runs.ranges.iter()) {
         print_column(rt, column, ranges.as_slice())?;
     }
-    println!(rt; "rows: # kept, . not; pages by letter, capital where fetched")?;
+    println!(rt; "rows: # asked for, . not; pages by letter, capital where fetched")?;
     print_picture(rt, trip, runs)?;
     if *runs == *masks {
         println!(rt; "runs and mask agree")

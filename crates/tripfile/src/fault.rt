@@ -18,12 +18,18 @@ pub enum Wrong {
     Range,
     #[error("a page with no column before it")]
     NoColumn,
+    #[error("a filter with no survey before it")]
+    NoSurvey,
     #[error("a third filter")]
     ThirdFilter,
+    #[error("a third survey")]
+    ThirdSurvey,
     #[error("a name is missing")]
     NoName,
-    #[error("the trip ends with fewer than two filters")]
+    #[error("a survey with fewer than two filters")]
     FewFilters,
+    #[error("the trip ends with fewer than two surveys")]
+    FewSurveys,
     #[error("no memory")]
     NoMemory(#[from(alloc)] AllocError),
 }

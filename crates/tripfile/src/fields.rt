@@ -1,5 +1,6 @@
 // The words of a line behind its first, read one after another as values.
 use crate::fault::Wrong;
+use crate::trip::Window;
 use pages::page::PageLocation;
 use std::num::TryFromIntError;
 use std::ops::RangeInclusive;
@@ -68,6 +69,16 @@ impl<'a> Fields<'a> {
             field: self.word()?.parse().map_err(|_| Wrong::Word)?,
             least: self.number()?,
             most: self.number()?,
+        })
+    }
+
+    // Counted from 1, and the last is not before the first.
+    pub(crate) fn window(&mut self) -> Result<Window, Wrong> {
+        let first = self.number_in(1..=u32::MAX)?;
+        let last = self.number_in(first..=u32::MAX)?;
+        Ok(Window {
+            first: first as usize,
+            last: last as usize,
         })
     }
 

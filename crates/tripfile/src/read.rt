@@ -1,10 +1,31 @@
 // Reading a trip file, line by line; `docs/TRIP.md` has its form.
 use crate::fault::{TripFault, Wrong};
 use crate::fields::Fields;
-use crate::trip::{Column, Trip};
+use crate::trip::{Column, Survey, Trip, Window};
 use std::alloc::Global;
 use survey::filter::Filter;
 use survey::shot::Shot;
+
+// What the lines so far gave of a survey, and the line that it begins with.
+#[derive(Drop)]
+struct SurveyLines {
+    name: String,
+    filters: Vec<Filter>,
+    line: usize,
+}
+
+impl SurveyLines {
+    fn survey(self) -> Result<Survey, TripFault> {
+        let &[first, second] = self.filters.as_slice() else {
+            return Err(TripFault::Line(self.line, Wrong::FewFilters));
+        };
+        Ok(Survey {
+            name: self.name,
+            first,
+            second,
+        })
+    }
+}
 
 // What the lines so far gave.
 #[derive(Drop)]
@@ -13,7 +34,8 @@ struct Lines {
     name: String,
     shots: Vec<Shot>,
     columns: Vec<Column>,
-    filters: Vec<Filter>,
+    surveys: Vec<SurveyLines>,
+    window: Window,
     threshold: usize,
 }
 
@@ -24,9 +46,31 @@ impl Lines {
             name: String::new(heap),
             shots: Vec::new(heap),
             columns: Vec::new(heap),
-            filters: Vec::new(heap),
+            surveys: Vec::new(heap),
+            window: Window::ALL,
             threshold: 0,
         }
+    }
+
+    fn begin_survey(&mut self, name: &str, line: usize) -> Result<(), Wrong> {
+        if self.surveys.len() >= 2 {
+            return Err(Wrong::ThirdSurvey);
+        }
+        self.surveys.push(SurveyLines {
+            name: String::from_str(self.heap, name)?,
+            filters: Vec::new(self.heap),
+            line,
+        })?;
+        Ok(())
+    }
+
+    fn add_filter(&mut self, filter: Filter) -> Result<(), Wrong> {
+        let survey = self.surveys.last_mut().ok_or(Wrong::NoSurvey)?;
+        if survey.filters.len() >= 2 {
+            return Err(Wrong::ThirdFilter);
+        }
+        survey.filters.push(filter)?;
+        Ok(())
     }
 
     fn read_line(&mut self, line: usize, text: &str) -> Result<(), Wrong> {
@@ -51,12 +95,9 @@ impl Lines {
                 let column = self.columns.last_mut().ok_or(Wrong::NoColumn)?;
                 column.pages.push(page)?;
             }
-            "filter" => {
-                if self.filters.len() >= 2 {
-                    return Err(Wrong::ThirdFilter);
-                }
-                self.filters.push(fields.filter()?)?;
-            }
+            "survey" => self.begin_survey(fields.name()?, line)?,
+            "filter" => self.add_filter(fields.filter()?)?,
+            "shots" => self.window = fields.window()?,
             "threshold" => self.threshold = fields.number::<u32>()? as usize,
             _ => return Err(Wrong::Word),
         }
@@ -72,15 +113,16 @@ pub fn read_trip(heap: Global, text: &str) -> Result<Trip, TripFault> {
             .read_line(line, text)
             .map_err(|wrong| TripFault::Line(line, wrong))?;
     }
-    let &[first, second] = lines.filters.as_slice() else {
-        return Err(TripFault::Line(text.lines().count(), Wrong::FewFilters));
+    let (Some(second), Some(first)) = (lines.surveys.pop(), lines.surveys.pop()) else {
+        return Err(TripFault::Line(text.lines().count(), Wrong::FewSurveys));
     };
     Ok(Trip {
         name: lines.name,
         shots: lines.shots,
         columns: lines.columns,
-        first,
-        second,
+        first: first.survey()?,
+        second: second.survey()?,
+        window: lines.window,
         threshold: lines.threshold,
     })
 }

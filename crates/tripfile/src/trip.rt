@@ -11,12 +11,36 @@ pub struct Column {
     pub line: usize,
 }
 
+// One of the surveys that look at the trip: two filters, of which the second judges only the shots that the first left.
+#[derive(Drop)]
+pub struct Survey {
+    pub name: String,
+    pub first: Filter,
+    pub second: Filter,
+}
+
+// Which of the kept shots are asked for: from the first to the last, counted from 1.
+#[derive(Clone, Copy, PartialEq, Eq, Debug)]
+pub struct Window {
+    pub first: usize,
+    pub last: usize,
+}
+
+impl Window {
+    // All of them, since no selection has as many.
+    pub const ALL: Window = Window {
+        first: 1,
+        last: u32::MAX as usize,
+    };
+}
+
 #[derive(Drop)]
 pub struct Trip {
     pub name: String,
     pub shots: Vec<Shot>,
     pub columns: Vec<Column>,
-    pub first: Filter,
-    pub second: Filter,
+    pub first: Survey,
+    pub second: Survey,
+    pub window: Window,
     pub threshold: usize,
 }
