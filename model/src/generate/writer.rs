@@ -47,17 +47,15 @@ pub fn rows_of(model: &Model, line: &str) -> Option<Vec<bool>> {
     Some(selection?.rows)
 }
 
-/// Every kind of place around what the rows need: the natural one, and of runs and of bytes one too small,
-/// one just right and one bigger.
+/// Every place up to what the rows need: the natural one, and of runs and of bytes each one too small, the one
+/// just right and a bigger one.
 pub fn places(rows: &[bool]) -> Vec<String> {
     let mut all = vec!["-".to_string()];
     for (letter, form) in [('r', Form::Runs), ('m', Form::Mask)] {
         let need = cost(rows, form);
-        if need > 0 {
-            all.push(format!("{letter} {}", need - 1));
+        for capacity in (0..=need).chain([need + 2]) {
+            all.push(format!("{letter} {capacity}"));
         }
-        all.push(format!("{letter} {need}"));
-        all.push(format!("{letter} {}", need + 2));
     }
     all
 }

@@ -37,23 +37,34 @@ fn made_and_seen(tour: &mut Tour, rows: &[bool]) {
         tour.say("rows 2");
     }
     tour.say(&format!("nth 1 {HUGE}"));
-    for threshold in [0, 1, 2, 3, 4, 1 << 32, 1 << 63, HUGE / 2, HUGE / 3 + 1, HUGE - 1, HUGE] {
+    for threshold in thresholds() {
         tour.say(&format!("strategy 0 {threshold}"));
         tour.say(&format!("strategy 1 {threshold}"));
     }
+}
+
+/// Every small one, those around each power of 2, and those where a product of 64 bits would wrap.
+fn thresholds() -> Vec<u64> {
+    let mut all: Vec<u64> = (0..=7).collect();
+    for power in 3..64 {
+        all.extend([(1 << power) - 1, 1 << power, (1 << power) + 1]);
+    }
+    for runs in 1..=5 {
+        all.extend([HUGE / runs - 1, HUGE / runs, (HUGE / runs).saturating_add(1)]);
+    }
+    all
 }
 
 fn seen(tour: &mut Tour, slot: usize, rows: &[bool]) {
     for look in ["rows", "count", "sum"] {
         tour.say(&format!("{look} {slot}"));
     }
-    let need = cost(rows, Form::Mask);
-    for capacity in need.saturating_sub(1)..=need + 1 {
+    for capacity in 0..=cost(rows, Form::Mask) + 1 {
         tour.say(&format!("bytes {slot} {capacity}"));
     }
 }
 
-/// Every list of up to four raw runs of zero, one or two rows, with every place around what it needs.
+/// Every list of up to four raw runs of zero, one or two rows, with every place up to what it needs.
 fn raw_runs(tour: &mut Tour) {
     let runs = ["+0", "-0", "+1", "-1", "+2", "-2"];
     let mut lists = vec![String::new()];
@@ -64,8 +75,7 @@ fn raw_runs(tour: &mut Tour) {
     }
     for list in lists {
         let rows = tour.out.rows_of(&format!("runs 2 9{list}")).expect("nine runs are enough");
-        let need = cost(&rows, Form::Runs);
-        for capacity in [need.saturating_sub(1), need + 1, need] {
+        for capacity in 0..=cost(&rows, Form::Runs) + 1 {
             tour.say(&format!("runs 2 {capacity}{list}"));
         }
         tour.say("rows 2");
@@ -110,15 +120,13 @@ fn ranges_of(tour: &mut Tour, total: u64, borders: &[u64]) {
         tour.say(&format!("ranges 4 {capacity} {total}{tokens}"));
         return;
     };
-    let need = cost(&rows, Form::Runs);
-    let short = need.saturating_sub(1);
-    let more = need + tour.any(2) as u64;
-    tour.say(&format!("ranges 4 {short} {total}{tokens}"));
-    tour.say(&format!("ranges 4 {more} {total}{tokens}"));
+    for capacity in 0..=cost(&rows, Form::Runs) + tour.any(2) as u64 {
+        tour.say(&format!("ranges 4 {capacity} {total}{tokens}"));
+    }
     tour.say("rows 4");
 }
 
-/// Made selections: masks of every mode around whole words, and runs with every place around their count.
+/// Made selections: masks of every mode around whole words, and runs with every place up to their count.
 fn from_seeds(tour: &mut Tour) {
     for mode in 0..=2 {
         for length in [0, 1, 8, 63, 64, 65, 200] {
@@ -133,7 +141,7 @@ fn from_seeds(tour: &mut Tour) {
     for seed in [1, 2, 1 << 63, HUGE] {
         for count in 0..=4u64 {
             for most in [1, 2, 3, 7, 1000] {
-                for capacity in [count.saturating_sub(1), count, count + 1] {
+                for capacity in 0..=count + 1 {
                     tour.say(&format!("fillruns 6 {capacity} {seed} {count} {most}"));
                     tour.say("rows 6");
                 }

@@ -1,5 +1,5 @@
-//! Every small case: all lists of up to five rows, in runs and in masks, with every place around what a
-//! result needs, and by hand the numbers around the row limit and around what 64 bits hold.
+//! Every small case: all lists of up to five rows, in runs and in masks, with every place up to what a result
+//! needs, and by hand the numbers around the row limit and around what 64 bits hold.
 
 use super::dice::Dice;
 use super::writer::{mask_line, runs_line};
@@ -7,9 +7,11 @@ use super::Writer;
 
 mod edges;
 mod making;
+mod misuse;
 mod one;
 mod paged;
 mod pairs;
+mod words;
 
 /// The writer with dice: where the choices cannot all be tried at each case, one is drawn for each.
 pub struct Tour {
@@ -79,7 +81,9 @@ pub fn script(seed: u64) -> Vec<u8> {
     making::all(&mut tour);
     one::all(&mut tour);
     pairs::all(&mut tour);
+    words::all(&mut tour);
     paged::all(&mut tour);
     edges::all(&mut tour);
+    misuse::all(&mut tour);
     tour.out.finish()
 }

@@ -42,10 +42,8 @@ fn ranges_answered(answer: &str) -> usize {
 fn scanned(tour: &mut Tour, first_rows: &[u64]) {
     let tokens = page_tokens(first_rows);
     let answer = tour.say(&format!("scan 0 3{tokens}"));
-    let need = ranges_answered(&answer);
-    tour.say(&format!("scan 1 {need}{tokens}"));
-    if need > 0 {
-        tour.say(&format!("scan 1 {}{tokens}", need - 1));
+    for capacity in 0..=ranges_answered(&answer) {
+        tour.say(&format!("scan 1 {capacity}{tokens}"));
     }
 }
 
@@ -58,10 +56,8 @@ fn rows_of_pages(tour: &mut Tour, first_rows: &[u64], length: u64) {
         tour.say(&format!("pagerows {form} 3 {total}{tokens}"));
     }
     let answer = tour.say(&format!("pagerows 0 3 {least}{tokens}"));
-    let need = ranges_answered(&answer);
-    tour.say(&format!("pagerows 1 {need} {least}{tokens}"));
-    if need > 0 {
-        tour.say(&format!("pagerows 1 {} {least}{tokens}", need - 1));
+    for capacity in 0..=ranges_answered(&answer) {
+        tour.say(&format!("pagerows 1 {capacity} {least}{tokens}"));
     }
 }
 

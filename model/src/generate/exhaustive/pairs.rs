@@ -16,8 +16,8 @@ pub fn all(tour: &mut Tour) {
         }
     }
     onto_operands(tour);
+    distances(tour);
     offsets(tour);
-    words(tour);
 }
 
 /// Slots 0 and 1 hold the first as runs and as a mask, 2 and 3 the second.
@@ -25,10 +25,12 @@ fn pair(tour: &mut Tour, matching: bool) {
     for (a, b) in [(0, 2), (0, 3), (1, 2), (1, 3)] {
         for rule in ["and", "or", "join"] {
             let result = tour.out.rows_of(&format!("{rule} 4 {a} {b} -")).expect("room is enough");
-            let every = places(&result);
-            let place = &every[tour.any(every.len())];
-            tour.say(&format!("{rule} 4 {a} {b} {place}"));
-            tour.look(4, place);
+            let mut every = places(&result);
+            if result.len() > 3 {
+                // One of them is enough, since the pairs are so many.
+                every = vec![every[tour.any(every.len())].clone()];
+            }
+            tour.each_place(&every, "", |place| format!("{rule} 4 {a} {b} {place}"), 4);
         }
         tour.say(&format!("eq {a} {b}"));
         narrowed(tour, a, b, matching);
@@ -74,6 +76,26 @@ fn onto_operands(tour: &mut Tour) {
     }
 }
 
+/// Every pair of lists as masks, the second at each distance from the first's bit offset, which is drawn.
+fn distances(tour: &mut Tour) {
+    for first in lists(5) {
+        let (a, junk) = (tour.any(8), tour.any(2) == 1);
+        tour.say(&mask_line(0, &first, a, junk, 0));
+        for second in lists(5) {
+            for b in 0..8 {
+                tour.say(&mask_line(1, &second, b, !junk, 0));
+                tour.say("eq 0 1");
+                for rule in RULES {
+                    let answer = tour.say(&format!("{rule} 2 0 1 -"));
+                    if answer == "ok" {
+                        tour.say("rows 2");
+                    }
+                }
+            }
+        }
+    }
+}
+
 /// Two masks at every pair of bit offsets: combining must bring their rows beside each other first.
 fn offsets(tour: &mut Tour) {
     let short: Vec<Vec<bool>> = lists(3).into_iter().filter(|rows| rows.len() >= 2).collect();
@@ -92,45 +114,4 @@ fn offsets(tour: &mut Tour) {
             }
         }
     }
-}
-
-/// Lengths around whole bytes and whole words of 64 rows, at every bit offset.
-fn words(tour: &mut Tour) {
-    let lengths = [7, 8, 9, 63, 64, 65, 127, 128, 129, 191];
-    for (i, length) in lengths.into_iter().enumerate() {
-        for offset in 0..8 {
-            let mode = tour.any(3);
-            tour.say(&format!("fillmask 0 {} {length} {offset} {mode}", 7 * i + offset + 1));
-            let (other, shift) = (lengths[tour.any(lengths.len())], 56 + tour.any(17));
-            tour.say(&format!("fillmask 1 {} {other} {shift} 0", 11 * i + offset + 1));
-            for rule in ["and", "or", "join"] {
-                tour.say(&format!("{rule} 2 0 1 -"));
-                tour.say("bytes 2 64");
-                tour.say(&format!("{rule} 3 1 0 r 500"));
-                tour.say("rows 3");
-            }
-            one_by_one(tour, length);
-        }
-    }
-}
-
-/// The commands of one selection on slot 0, near its borders.
-fn one_by_one(tour: &mut Tour, length: u64) {
-    let selected = selected_count(&tour.out.model.slot(0).expect("just filled").rows);
-    for n in [1, selected / 2, selected.saturating_sub(1), selected, selected + 1] {
-        tour.say(&format!("nth 0 {n}"));
-        for rule in ["limit", "offset"] {
-            tour.say("copy 4 0");
-            tour.say(&format!("{rule} 4 {n} -"));
-            tour.say("bytes 4 64");
-        }
-    }
-    for n in [1, length / 2, length - 1, length] {
-        tour.say("copy 4 0");
-        tour.say(&format!("split 5 4 {n} - m 64"));
-        tour.say("bytes 4 64");
-        tour.say("bytes 5 64");
-    }
-    tour.say("trim 0 -");
-    tour.say("rows 0");
 }
