@@ -18,7 +18,8 @@ pub fn from_runs(capacity: u64, runs: &[Run]) -> Result<Vec<bool>, Refusal> {
     if need > capacity {
         return Err(of_selection(12, need));
     }
-    let mut rows = Vec::new();
+    // All at once, since a selection near the row limit takes a gigabyte.
+    let mut rows = Vec::with_capacity(length as usize);
     for run in runs {
         for _ in 0..run.rows {
             rows.push(run.selected);
