@@ -65,17 +65,12 @@ fn no_more_rows_join_than_the_limit(rt: HostRuntime) -> Result<(), Fail> {
     let mut slots = [OLD; 0];
     let mut none = RunPlace::new(&mut slots);
     let at = Layer::Selection;
-    want(
-        refused(join(all.list(), one.list(), &mut none), 1, 1, at),
-        &[1],
-    )?;
-    want(
-        refused(join(one.list(), all.list(), &mut none), 1, 1, at),
-        &[2],
-    )?;
+    assert!(rt; refused(join(all.list(), one.list(), &mut none), 1, 1, at));
+    assert!(rt; refused(join(one.list(), all.list(), &mut none), 1, 1, at));
     let bytes = vec![in heap; 0u8; 67_108_865]?;
     let half = Mask::new(bytes.as_slice(), 0, 536_870_913)?;
-    want(refused(join_masks(half, half, &mut none), 1, 1, at), &[3])
+    assert!(rt; refused(join_masks(half, half, &mut none), 1, 1, at));
+    Ok(())
 }
 
 #[test]

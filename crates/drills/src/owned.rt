@@ -84,11 +84,8 @@ fn a_policy_combines_what_is_stored(rt: HostRuntime) -> Result<(), Fail> {
             second: second.selection(),
             policy: And,
         };
-        want(both.is_mask() == second.is_mask(), &[])?;
-        want(
-            holds(&perform(heap, both, Room::Mask(1))?, &[-1, 2, -2]),
-            &[],
-        )?;
+        assert!(rt; both.is_mask() == second.is_mask());
+        assert!(rt; holds(&perform(heap, both, Room::Mask(1))?, &[-1, 2, -2]));
     }
     Ok(())
 }

@@ -64,21 +64,18 @@ fn two_selections_in_any_forms_make_one(rt: HostRuntime) -> Result<(), Fail> {
             let (first, second) = (first.selection(), second.selection());
             let mut out = RunPlace::new(&mut slots);
             first.intersection(&second, &mut out)?;
-            want(are(out.list().runs(), &[-1, 2, -2]), &[12])?;
+            assert!(rt; are(out.list().runs(), &[-1, 2, -2]));
             first.union(&second, &mut out)?;
-            want(are(out.list().runs(), &[3, -2]), &[13])?;
+            assert!(rt; are(out.list().runs(), &[3, -2]));
             second.combine(&first, Or, &mut out)?;
-            want(are(out.list().runs(), &[3, -2]), &[14])?;
+            assert!(rt; are(out.list().runs(), &[3, -2]));
             first.join(&second, &mut out)?;
-            want(are(out.list().runs(), &[3, -3, 1]), &[15])?;
+            assert!(rt; are(out.list().runs(), &[3, -3, 1]));
             let mut few = RunPlace::new(&mut slots[..1]);
             let at = Layer::Selection;
-            want(
-                refused(first.intersection(&second, &mut few), 12, 3, at),
-                &[16],
-            )?;
-            want(refused(first.union(&second, &mut few), 12, 2, at), &[17])?;
-            want(refused(first.join(&second, &mut few), 12, 3, at), &[18])?;
+            assert!(rt; refused(first.intersection(&second, &mut few), 12, 3, at));
+            assert!(rt; refused(first.union(&second, &mut few), 12, 2, at));
+            assert!(rt; refused(first.join(&second, &mut few), 12, 3, at));
         }
     }
     Ok(())
