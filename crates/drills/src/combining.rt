@@ -2,15 +2,16 @@
 ghost use Rattle.std.specs.Prelude.{◌||◌};
 ghost use Rattle.std.proofs.Common.{rules};
 
-use crate::given::{OLD, are, forms, has, in_mask, in_runs, refused, want};
+use crate::given::{OLD, are, has, in_mask, in_masks, in_pairs, in_runs, refused, want};
 use algebra::combine::combine;
+use bits::mask::Mask;
 use masks::place::MaskPlace;
 use policies::both::{And, Or};
 use policies::order::any_order;
 use policies::policy::Policy;
 use refusals::refusal::Layer;
 use runs::run_place::RunPlace;
-use std::alloc::Global;
+use selections::form::RowSelection;
 use std::test::Fail;
 use words::combine::combine_masks;
 
@@ -48,58 +49,35 @@ const PAIRS: [(&[i32], &[i32], &[i32], &[i32]); 8] = [
     (&[-1, 1, -61], &[1, -1, 63], &[-63, 2], &[65]),
 ];
 
-// Whether two selections, in any of their forms, have this combination in runs.
+// Whether the combination of two selections has these runs.
 fn combines<P: Policy>(
-    heap: Global,
     policy: P,
-    pair: (&[i32], &[i32]),
+    first: RowSelection,
+    second: RowSelection,
     wanted: &[i32],
-) -> Result<bool, Fail> {
+) -> bool {
     let mut slots = [OLD; 4];
-    for first in &forms(heap, pair.0)? {
-        for second in &forms(heap, pair.1)? {
-            let mut out = RunPlace::new(&mut slots);
-            combine(first.selection(), second.selection(), policy, &mut out)?;
-            if !are(out.list().runs(), wanted) {
-                return Ok(false);
-            }
-        }
-    }
-    Ok(true)
+    let mut out = RunPlace::new(&mut slots);
+    combine(first, second, policy, &mut out).is_ok() && are(out.list().runs(), wanted)
 }
 
-// Whether two masks have this combination as a mask, from whatever bits on they begin.
-fn combines_words<P: Policy>(
-    heap: Global,
-    policy: P,
-    pair: (&[i32], &[i32]),
-    wanted: &[i32],
-) -> Result<bool, Fail> {
+// Whether the combination of two masks has these rows.
+fn combines_words<P: Policy>(policy: P, first: Mask, second: Mask, wanted: &[i32]) -> bool {
     let mut bytes = [0x55; 17];
-    for at in 0..8 {
-        let first = in_mask(heap, at, pair.0)?;
-        for other in 0..8 {
-            let second = in_mask(heap, other, pair.1)?;
-            let mut out = MaskPlace::new(&mut bytes);
-            combine_masks(first.mask(), second.mask(), policy, &mut out)?;
-            if !has(out.mask(), wanted) {
-                return Ok(false);
-            }
-        }
-    }
-    Ok(true)
+    let mut out = MaskPlace::new(&mut bytes);
+    combine_masks(first, second, policy, &mut out).is_ok() && has(out.mask(), wanted)
 }
 
 #[test]
 fn rows_combine_one_by_one(rt: HostRuntime) -> Result<(), Fail> {
     let heap = rt.alloc();
     for (first, second, both, either) in PAIRS {
-        want(combines(heap, And, (first, second), both)?, first)?;
-        want(combines(heap, Or, (first, second), either)?, first)?;
-        want(
-            combines(heap, NotBothSkipped, (first, second), either)?,
-            first,
-        )?;
+        let holds = in_pairs(heap, first, second, |a, b| {
+            combines(And, a, b, both)
+                && combines(Or, a, b, either)
+                && combines(NotBothSkipped, a, b, either)
+        })?;
+        want(holds, first)?;
     }
     Ok(())
 }
@@ -108,12 +86,12 @@ fn rows_combine_one_by_one(rt: HostRuntime) -> Result<(), Fail> {
 fn words_are_shifted_before_they_combine(rt: HostRuntime) -> Result<(), Fail> {
     let heap = rt.alloc();
     for (first, second, both, either) in PAIRS {
-        want(combines_words(heap, And, (first, second), both)?, first)?;
-        want(combines_words(heap, Or, (first, second), either)?, first)?;
-        want(
-            combines_words(heap, NotBothSkipped, (first, second), either)?,
-            first,
-        )?;
+        let holds = in_masks(heap, first, second, |a, b| {
+            combines_words(And, a, b, both)
+                && combines_words(Or, a, b, either)
+                && combines_words(NotBothSkipped, a, b, either)
+        })?;
+        want(holds, first)?;
     }
     assert!(rt; any_order(NotBothSkipped) == 3);
     Ok(())

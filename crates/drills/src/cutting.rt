@@ -1,12 +1,14 @@
 // offset, limit and trim: over any sources, on run lists, and on masks by words.
-use crate::given::{OLD, S, are, forms, has, in_mask, in_runs, refused, want};
+use crate::given::{OLD, S, are, has, in_each, in_mask, in_runs, refused, want};
 use cuts::limit::limit;
 use cuts::offset::offset;
 use cuts::run_offset::offset_runs;
 use cuts::trim::trim;
 use masks::place::MaskPlace;
 use refusals::refusal::Layer;
+use runs::run_list::RunList;
 use runs::run_place::RunPlace;
+use selections::form::RowSelection;
 use std::test::Fail;
 use words::cut::{limit_mask, trim_mask};
 use words::offset::offset_mask;
@@ -54,57 +56,69 @@ const TRIMS: [(&[i32], &[i32]); 6] = [
     (&[64, -1], &[64]),
 ];
 
+// Whether offset gives these runs, and of a mask these rows.
+fn offsets(rows: RowSelection, n: usize, wanted: &[i32]) -> bool {
+    let mut slots = [OLD; 4];
+    let mut bytes = [0x55; 9];
+    let mut out = RunPlace::new(&mut slots);
+    let mut words = MaskPlace::new(&mut bytes);
+    let Some(mask) = rows.mask() else {
+        return offset(rows, n, &mut out).is_ok() && are(out.list().runs(), wanted);
+    };
+    offset(rows, n, &mut out).is_ok()
+        && are(out.list().runs(), wanted)
+        && offset_mask(mask, n, &mut words).is_ok()
+        && has(words.mask(), wanted)
+}
+
+fn offsets_runs(list: RunList, n: usize, wanted: &[i32]) -> bool {
+    let mut slots = [OLD; 4];
+    let mut out = RunPlace::new(&mut slots);
+    offset_runs(list, n, &mut out).is_ok() && are(out.list().runs(), wanted)
+}
+
+// Whether limit gives these runs, and of a mask these rows.
+fn limits(rows: RowSelection, n: usize, wanted: &[i32]) -> bool {
+    let mut slots = [OLD; 4];
+    let mut out = RunPlace::new(&mut slots);
+    limit(rows, n, &mut out).is_ok()
+        && are(out.list().runs(), wanted)
+        && rows
+            .mask()
+            .is_none_or(|mask| has(limit_mask(mask, n), wanted))
+}
+
+// Whether trim gives these runs, and of a mask these rows.
+fn trims(rows: RowSelection, wanted: &[i32]) -> bool {
+    let mut slots = [OLD; 4];
+    let mut out = RunPlace::new(&mut slots);
+    trim(rows, &mut out).is_ok()
+        && are(out.list().runs(), wanted)
+        && rows.mask().is_none_or(|mask| has(trim_mask(mask), wanted))
+}
+
 #[test]
 fn offset_skips_the_first_selected(rt: HostRuntime) -> Result<(), Fail> {
     let heap = rt.alloc();
-    let mut slots = [OLD; 4];
-    let mut bytes = [0x55; 9];
     for (rows, n, wanted) in OFFSETS {
-        let mut out = RunPlace::new(&mut slots);
-        for form in &forms(heap, rows)? {
-            offset(form.selection(), n, &mut out)?;
-            want(are(out.list().runs(), wanted), rows)?;
-        }
-        offset_runs(in_runs(heap, rows)?.list(), n, &mut out)?;
-        want(are(out.list().runs(), wanted), rows)?;
-        for at in 0..8 {
-            let mut words = MaskPlace::new(&mut bytes);
-            offset_mask(in_mask(heap, at, rows)?.mask(), n, &mut words)?;
-            want(has(words.mask(), wanted), rows)?;
-        }
+        want(in_each(heap, rows, |s| offsets(s, n, wanted))?, rows)?;
+        want(offsets_runs(in_runs(heap, rows)?.list(), n, wanted), rows)?;
     }
     Ok(())
 }
 
 #[test]
 fn limit_ends_after_the_nth_selected(rt: HostRuntime) -> Result<(), Fail> {
-    let heap = rt.alloc();
-    let mut slots = [OLD; 4];
     for (rows, n, wanted) in LIMITS {
-        let mut out = RunPlace::new(&mut slots);
-        for form in &forms(heap, rows)? {
-            limit(form.selection(), n, &mut out)?;
-            want(are(out.list().runs(), wanted), rows)?;
-        }
-        want(
-            has(limit_mask(in_mask(heap, 3, rows)?.mask(), n), wanted),
-            rows,
-        )?;
+        want(in_each(rt.alloc(), rows, |s| limits(s, n, wanted))?, rows)?;
     }
     Ok(())
 }
 
 #[test]
 fn trim_drops_the_skips_at_the_end(rt: HostRuntime) -> Result<(), Fail> {
-    let heap = rt.alloc();
-    let mut slots = [OLD; 4];
     for (rows, wanted) in TRIMS {
-        let mut out = RunPlace::new(&mut slots);
-        for form in &forms(heap, rows)? {
-            trim(form.selection(), &mut out)?;
-            want(are(out.list().runs(), wanted), rows)?;
-        }
-        want(has(trim_mask(in_mask(heap, 7, rows)?.mask()), wanted), rows)?;
+        want(in_each(rt.alloc(), rows, |s| trims(s, wanted))?, rows)?;
     }
     Ok(())
 }

@@ -5,6 +5,7 @@ use refusals::refusal::Layer;
 use rows::selector::RowSelector;
 use runs::raw::collect_runs;
 use runs::run_place::RunPlace;
+use selections::form::RowSelection;
 use std::alloc::Global;
 use std::test::Fail;
 use stored::bytes::StoredMask;
@@ -64,6 +65,63 @@ pub(crate) fn forms(heap: Global, rows: &[i32]) -> Result<[Stored; 3], Fail> {
         Stored::Mask(in_mask(heap, 0, rows)?),
         Stored::Mask(in_mask(heap, 5, rows)?),
     ])
+}
+
+// Whether something holds of rows in each of their forms.
+pub(crate) fn in_each<F: for<'s> Fn(RowSelection<'s>) -> bool>(
+    heap: Global,
+    rows: &[i32],
+    holds: F,
+) -> Result<bool, Fail>
+    requires { F.IsAlwaysCallable holds }
+{
+    for form in &forms(heap, rows)? {
+        if !holds(form.selection()) {
+            return Ok(false);
+        }
+    }
+    Ok(true)
+}
+
+// Whether something holds of two lists of rows, each in each of its forms.
+pub(crate) fn in_pairs<F: for<'s, 't> Fn(RowSelection<'s>, RowSelection<'t>) -> bool>(
+    heap: Global,
+    first: &[i32],
+    second: &[i32],
+    holds: F,
+) -> Result<bool, Fail>
+    requires { F.IsAlwaysCallable holds }
+{
+    let others = forms(heap, second)?;
+    for one in &forms(heap, first)? {
+        for other in &others {
+            if !holds(one.selection(), other.selection()) {
+                return Ok(false);
+            }
+        }
+    }
+    Ok(true)
+}
+
+// Whether something holds of two masks, each from each bit of a byte on.
+pub(crate) fn in_masks<F: for<'s, 't> Fn(Mask<'s>, Mask<'t>) -> bool>(
+    heap: Global,
+    first: &[i32],
+    second: &[i32],
+    holds: F,
+) -> Result<bool, Fail>
+    requires { F.IsAlwaysCallable holds }
+{
+    for at in 0..8 {
+        let one = in_mask(heap, at, first)?;
+        for from in 0..8 {
+            let other = in_mask(heap, from, second)?;
+            if !holds(one.mask(), other.mask()) {
+                return Ok(false);
+            }
+        }
+    }
+    Ok(true)
 }
 
 // Whether these are the runs.

@@ -1,11 +1,12 @@
 // Joining two selections and comparing them: by runs and by words of masks.
-use crate::given::{OLD, are, forms, has, in_mask, in_runs, refused, want};
+use crate::given::{OLD, are, has, in_mask, in_masks, in_pairs, in_runs, refused, want};
 use algebra::equal::{same_rows, selects_any};
 use algebra::join::join;
 use bits::mask::Mask;
 use masks::place::MaskPlace;
 use refusals::refusal::Layer;
 use runs::run_place::RunPlace;
+use selections::form::RowSelection;
 use std::test::Fail;
 use words::join::join_masks;
 use words::same::same_mask_rows;
@@ -33,25 +34,32 @@ const LISTS: [(&[i32], bool); 8] = [
     (&[-65], false),
 ];
 
+// Whether two selections joined have these runs.
+fn joins(first: RowSelection, second: RowSelection, wanted: &[i32]) -> bool {
+    let mut slots = [OLD; 4];
+    let mut out = RunPlace::new(&mut slots);
+    join(first, second, &mut out).is_ok() && are(out.list().runs(), wanted)
+}
+
+// Whether two masks joined have these rows.
+fn joins_words(first: Mask, second: Mask, wanted: &[i32]) -> bool {
+    let mut bytes = [0x55; 17];
+    let mut out = MaskPlace::new(&mut bytes);
+    join_masks(first, second, &mut out).is_ok() && has(out.mask(), wanted)
+}
+
 #[test]
 fn the_second_stands_after_the_first(rt: HostRuntime) -> Result<(), Fail> {
     let heap = rt.alloc();
-    let mut slots = [OLD; 4];
-    let mut bytes = [0x55; 17];
     for (first, second, wanted) in PAIRS {
-        let mut out = RunPlace::new(&mut slots);
-        let mut words = MaskPlace::new(&mut bytes);
-        for one in &forms(heap, first)? {
-            for other in &forms(heap, second)? {
-                join(one.selection(), other.selection(), &mut out)?;
-                want(are(out.list().runs(), wanted), first)?;
-            }
-        }
-        for at in 0..8 {
-            let one = in_mask(heap, at, first)?;
-            join_masks(one.mask(), in_mask(heap, 3, second)?.mask(), &mut words)?;
-            want(has(words.mask(), wanted), first)?;
-        }
+        want(
+            in_pairs(heap, first, second, |a, b| joins(a, b, wanted))?,
+            first,
+        )?;
+        want(
+            in_masks(heap, first, second, |a, b| joins_words(a, b, wanted))?,
+            first,
+        )?;
     }
     Ok(())
 }
@@ -104,17 +112,15 @@ fn selections_are_equal_by_their_rows(rt: HostRuntime) -> Result<(), Fail> {
     let heap = rt.alloc();
     for (one, any) in LISTS {
         for (other, _) in LISTS {
-            let wanted = one == other;
-            for first in &forms(heap, one)? {
-                want(selects_any(first.selection()) == any, one)?;
-                for second in &forms(heap, other)? {
-                    let same = same_rows(first.selection(), second.selection());
-                    want(same == wanted, one)?;
-                }
-            }
-            let second = in_mask(heap, 2, other)?;
-            let same = same_mask_rows(in_mask(heap, 7, one)?.mask(), second.mask());
-            want(same == wanted, one)?;
+            let same = one == other;
+            let holds = in_pairs(heap, one, other, |a, b| {
+                same_rows(a, b) == same && selects_any(a) == any
+            })?;
+            want(holds, one)?;
+            want(
+                in_masks(heap, one, other, |a, b| same_mask_rows(a, b) == same)?,
+                one,
+            )?;
         }
     }
     Ok(())

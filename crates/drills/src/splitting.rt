@@ -1,9 +1,11 @@
 // split_off: over any sources, and on masks by words.
-use crate::given::{OLD, S, are, forms, has, in_mask, in_runs, refused, want};
+use crate::given::{OLD, S, are, has, in_each, in_mask, in_masks, in_runs, refused, want};
+use bits::mask::Mask;
 use cuts::split::split_off;
 use masks::place::MaskPlace;
 use refusals::refusal::Layer;
 use runs::run_place::RunPlace;
+use selections::form::RowSelection;
 use std::test::Fail;
 use words::split::split_off_mask;
 
@@ -19,28 +21,35 @@ const SPLITS: [(&[i32], usize, &[i32], &[i32]); 8] = [
     (&[-63, 65], 65, &[-63, 2], &[63]),
 ];
 
+// Whether the parts are these.
+fn splits(rows: RowSelection, n: usize, first: &[i32], second: &[i32]) -> bool {
+    let mut slots = [OLD; 4];
+    let mut bytes = [0x55; 9];
+    let mut runs = RunPlace::new(&mut slots);
+    let mut mask = MaskPlace::new(&mut bytes);
+    split_off(rows, n, &mut runs, &mut mask).is_ok()
+        && are(runs.list().runs(), first)
+        && has(mask.mask(), second)
+}
+
+// Whether the parts of a mask are these.
+fn splits_words(rows: Mask, n: usize, first: &[i32], second: &[i32]) -> bool {
+    let mut slots = [OLD; 4];
+    let mut bytes = [0x55; 9];
+    let mut runs = RunPlace::new(&mut slots);
+    let mut mask = MaskPlace::new(&mut bytes);
+    split_off_mask(rows, n, &mut mask, &mut runs).is_ok()
+        && has(mask.mask(), first)
+        && are(runs.list().runs(), second)
+}
+
 #[test]
 fn split_off_parts_the_rows(rt: HostRuntime) -> Result<(), Fail> {
     let heap = rt.alloc();
-    let mut slots = [OLD; 4];
-    let mut bytes = [0x55; 9];
     for (rows, n, first, second) in SPLITS {
-        let mut runs = RunPlace::new(&mut slots);
-        let mut mask = MaskPlace::new(&mut bytes);
-        for form in &forms(heap, rows)? {
-            split_off(form.selection(), n, &mut runs, &mut mask)?;
-            want(
-                are(runs.list().runs(), first) && has(mask.mask(), second),
-                rows,
-            )?;
-        }
-        for at in 0..8 {
-            split_off_mask(in_mask(heap, at, rows)?.mask(), n, &mut mask, &mut runs)?;
-            want(
-                has(mask.mask(), first) && are(runs.list().runs(), second),
-                rows,
-            )?;
-        }
+        want(in_each(heap, rows, |s| splits(s, n, first, second))?, rows)?;
+        let holds = in_masks(heap, rows, rows, |s, _| splits_words(s, n, first, second))?;
+        want(holds, rows)?;
     }
     Ok(())
 }
