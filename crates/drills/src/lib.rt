@@ -1,4 +1,4 @@
-// Examples and edges of the operations on selections, run as tests; the crate has no code of its own.
+// Examples and edges of combining, joining and cutting, of ranges, and of selections that own their memory, run as tests; the crate has no code of its own.
 #![tactic(auto)]
 
 #[cfg(test)]
@@ -17,5 +17,3 @@ mod ranging;
 mod splitting;
 #[cfg(test)]
 mod states;
-#[cfg(test)]
-mod whole;
