@@ -61,7 +61,7 @@ rows_drop f a (suc n) (suc k) h =
     rows_drop f (a + 1) n k (omega arith)
     ∙ ap₂ (rows_of f) (let e : a + 1 + k ≡ a + suc k = omega arith in e) (let e : n - k ≡ suc n - suc k = omega arith in e)
 
-rows_take : (f : ℕ → Bool) (a n m : ℕ) → take m (rows_of f a n) ≡ rows_of f a (min m n)
+pub rows_take : (f : ℕ → Bool) (a n m : ℕ) → take m (rows_of f a n) ≡ rows_of f a (min m n)
 unfolding rows_of
 rows_take f a n zero = ap (rows_of f a) (let e : 0 ≡ min 0 n = omega arith in e)
 rows_take f a zero (suc m) = ap (rows_of f a) (let e : 0 ≡ min (suc m) 0 = omega arith in e)

@@ -39,7 +39,7 @@ ones_selected (suc k) n h =
     ∙ sym (selected-cons (bit_at n 0) (rows_of (bit_at n) 1 k))
 
 -- the bits above a number's digits are not counted
-selected-short : (k m n : ℕ) → n < 2 ^ k → k ≤ m → selected_count (word_rows n m) ≡ selected_count (word_rows n k)
+pub selected-short : (k m n : ℕ) → n < 2 ^ k → k ≤ m → selected_count (word_rows n m) ≡ selected_count (word_rows n k)
 selected-short k m n h l = sym (ones_selected m n (lt_of_lt_of_le h (pow_mono l))) ∙ ones_selected k n h
 
 -- the n low bits of w % 2 ^ n are those of w
@@ -74,13 +74,13 @@ bytes_drop bytes b o q n h =
     row_drop bytes b (o + k) ∙ ap (row_at bytes) (let e : 8 * b + (o + k) ≡ q + k = omega arith in e))
 
 -- a byte's bits are the rows at its place
-row-byte : (bytes : List ℕ) (i k : ℕ) → k < 8 → row_at bytes (8 * i + k) ≡ bit_at (get_or bytes i 0) k
+pub row-byte : (bytes : List ℕ) (i k : ℕ) → k < 8 → row_at bytes (8 * i + k) ≡ bit_at (get_or bytes i 0) k
 unfolding row_at
 row-byte bytes i k h =
     ap₂ (λ (x y : ℕ). bit_at (get_or bytes x 0) y) (let e : (8 * i + k) / 8 ≡ i = omega arith in e) (let e : (8 * i + k) % 8 ≡ k = omega arith in e)
 
 -- n rows from p on within the byte at i, whose bit s is row p
-byte-part : (bytes : List ℕ) (i p s n : ℕ) → 8 * i + s ≡ p → s + n ≤ 8 → mask_rows bytes p n ≡ rows_of (bit_at (get_or bytes i 0)) s n
+pub byte-part : (bytes : List ℕ) (i p s n : ℕ) → 8 * i + s ≡ p → s + n ≤ 8 → mask_rows bytes p n ≡ rows_of (bit_at (get_or bytes i 0)) s n
 byte-part bytes i p s n e h =
     rows_ext (row_at bytes) (bit_at (get_or bytes i 0)) p s n (λ k l.
     ap (row_at bytes) (let d : p + k ≡ 8 * i + (s + k) = omega arith in d) ∙ row-byte bytes i (s + k) (omega arith))

@@ -15,8 +15,12 @@ impl<'a> Mask<'a> {
         if at >= self.len {
             return 0;
         }
-        let left = (self.len - at).min(64);
+        let left = self.len - at;
         let start = self.offset + at;
+        // Most words are whole, and cutting them would take as long as to read them.
+        if left >= 64 {
+            return word_at(self.bytes, start);
+        }
         low_bits(word_at(self.bytes, start), left)
     }
 }

@@ -12,6 +12,17 @@ pub(crate) fn bit_at(bytes: &[u8], p: usize) -> bool
     (bytes[p / 8] >> (p % 8)) & 1 == 1
 }
 
+// Fewer than eight bytes as a word, of which what lies past them is 0. It is no part of its caller, which reads whole words without memory of its own.
+#[inline(never)]
+fn short_word(rest: &[u8]) -> u64
+    requires { length rest.now ≤ 8 }
+    ensures { word_rows result 64 ≡ mask_rows rest.now 0 64 }
+{
+    let mut eight = [0; 8];
+    eight[..rest.len()].copy_from_slice(rest);
+    u64::from_le_bytes(eight)
+}
+
 // The word of eight bytes from byte i on; what lies past the end is 0.
 fn eight_bytes(bytes: &[u8], i: usize) -> u64
     ensures { word_rows result 64 ≡ mask_rows bytes.now (8 * i) 64 }
@@ -22,9 +33,7 @@ fn eight_bytes(bytes: &[u8], i: usize) -> u64
     if let Some(eight) = rest.first_chunk::<8>() {
         return u64::from_le_bytes(*eight);
     }
-    let mut eight = [0; 8];
-    eight[..rest.len()].copy_from_slice(rest);
-    u64::from_le_bytes(eight)
+    short_word(rest)
 }
 
 // The 64 rows from bit p on; those past the bytes read as 0.
