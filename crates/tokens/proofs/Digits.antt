@@ -13,7 +13,7 @@ some_below limit n m e = grind (arith, nat_tests)
 not-below : (limit n : ℕ) → below limit (Some n) ≡ None → limit ≤ n
 not-below limit n e = grind (arith, nat_tests)
 
-none_below : (limit n : ℕ) → limit ≤ n → below limit (Some n) ≡ None
+pub none_below : (limit n : ℕ) → limit ≤ n → below limit (Some n) ≡ None
 none_below limit n h = grind (arith, nat_tests)
 
 -- more digits make no smaller number
