@@ -5,12 +5,10 @@ use lib.ListN.{length-replicate, replicate-append-replicate}
 use Rattle.std.proofs.lemmas.Bool.{and_from, lt-ltb, true≢false}
 use Rattle.std.proofs.lemmas.List.{length-take-le, length_push}
 use Rattle.rows.specs.declared.selector.RowSelector.{RowSelector}
-use Rattle.rows.specs.Rows.{same, run_of, run_rows, selected_in, selected_count, canonical, count_runs}
+use Rattle.rows.specs.Rows.{same, row_limit, run_of, run_rows, selected_in, selected_count, canonical, count_runs}
 use Rattle.rows.proofs.Counts.{selected-append, selected-run}
 use Rattle.rows.proofs.RunLaws.{canonical-parts}
-use Rattle.runs.specs.declared.counts.RowCounts.{RowCounts}
 use Rattle.runs.specs.declared.place.Place.{Place}
-use Rattle.runs.specs.Counted.{IsRunList}
 use Rattle.runs.specs.Places.{held}
 use Rattle.runs.specs.RunPlaces.{Apart}
 use Rattle.runs.specs.Sinks.{Room}
@@ -83,8 +81,8 @@ more-selected xs ys r e =
     ap selected_count e ∙ selected-append xs (run_of r) ∙ ap (λ k. selected_count xs + k) (ap selected_count (sym (append-nil (run_of r))) ∙ selected-run r.row_count r.skip [] ∙ omega arith)
 
 -- a place of runs has room for what it holds
-pub place-room : (s : Place RowSelector) (n : RowCounts) → IsRunList (held s) n → Room (λ _ k. k) (length s.slots.now) (run_rows (held s))
-place-room s n w = (omega arith, omega (arith, runs-canonical (held s) w.whole, length-take-le s.len s.slots.now s.inside))
+pub place-room : (s : Place RowSelector) (all : ℕ) → canonical (held s) ≡ true → all ≡ length (run_rows (held s)) → all ≤ row_limit → Room (λ _ k. k) (length s.slots.now) (run_rows (held s))
+place-room s all w c h = (omega arith, omega (arith, runs-canonical (held s) w, length-take-le s.len s.slots.now s.inside))
 
 -- and none for one whole run more where it is full
 pub no_slot : (s : Place RowSelector) (r : RowSelector) → canonical (held s) ≡ true → Apart (held s) r.skip → 0 < r.row_count → length s.slots.now ≤ s.len → Room (λ _ k. k) (length s.slots.now) (run_rows (held s) ++ run_of r) → ⊥

@@ -16,8 +16,8 @@ use Rattle.runs.specs.Counted.{IsRunList}
 use Rattle.runs.specs.Places.{held, Untouched}
 
 -- a run list is within the row limit
-pub few-rows : (rs : List RowSelector) (n : RowCounts) → IsRunList rs n → length (run_rows rs) ≤ row_limit
-few-rows rs n h = omega arith
+pub few-rows : (n : ℕ) (rs : List RowSelector) → n ≡ length (run_rows rs) → n ≤ row_limit → length (run_rows rs) ≤ row_limit
+few-rows n rs e h = omega arith
 
 -- so is one of two that are
 pub few-either : {A B : Type 0} (f : A → List Bool) (g : B → List Bool) → ((a : A) → length (f a) ≤ row_limit) → ((b : B) → length (g b) ≤ row_limit) → (s : Either A B) → length (either f g s) ≤ row_limit
@@ -57,10 +57,10 @@ runs-canonical (k ∷ ks) w =
     omega (arith, runs-more None k.row_count (not k.skip) (run_rows ks) parts.0, runs_on k.skip ks parts.1 parts.2)
 
 -- more rows, no fewer runs
-longer-list : (s t : Place RowSelector) (m n : RowCounts) → IsRunList (held s) m → IsRunList (held t) n → (more : List Bool) → run_rows (held t) ≡ run_rows (held s) ++ more → s.len ≤ t.len
-longer-list s t m n w v more e =
-    omega (arith, runs-canonical (held s) w.whole, runs-canonical (held t) v.whole, length-take-le s.len s.slots.now s.inside, length-take-le t.len t.slots.now t.inside, runs-front None (run_rows (held s)) more, ap count_runs e)
+pub longer-list : (s t : Place RowSelector) → canonical (held s) ≡ true → canonical (held t) ≡ true → (more : List Bool) → run_rows (held t) ≡ run_rows (held s) ++ more → s.len ≤ t.len
+longer-list s t w v more e =
+    omega (arith, runs-canonical (held s) w, runs-canonical (held t) v, length-take-le s.len s.slots.now s.inside, length-take-le t.len t.slots.now t.inside, runs-front None (run_rows (held s)) more, ap count_runs e)
 
 -- what two steps of a place of runs keep
 pub place-chain : (s t u : Place RowSelector) (m n : RowCounts) → IsRunList (held t) m → IsRunList (held u) n → (more : List Bool) → run_rows (held u) ≡ run_rows (held t) ++ more → Untouched s t → Untouched t u → Untouched s u
-place-chain s t u m n w v more grows = untouched-chain s t u (longer-list t u m n w v more grows)
+place-chain s t u m n w v more grows = untouched-chain s t u (longer-list t u w.whole v.whole more grows)

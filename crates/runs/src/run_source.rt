@@ -21,7 +21,7 @@ impl<'a> RunSource for RunList<'a> {
         Some(run)
     }
 
-    ghost within = { λ s. few-rows s.runs.now s.counts s.list };
+    ghost within = { λ s. few-rows s.counts.all s.runs.now s.list.counted s.list.within };
 }
 
 impl<'a> CountedSource for RunList<'a> {

@@ -19,7 +19,7 @@ impl<'a> RunSource for RowSelection<'a> {
         self.form.next_run()
     }
 
-    ghost within = { λ s. few-either _ left (λ l. few-rows l.runs.now l.counts l.list) few-left s.form };
+    ghost within = { λ s. few-either _ left (λ l. few-rows l.counts.all l.runs.now l.list.counted l.list.within) few-left s.form };
 }
 
 impl<'a> CountedSource for RowSelection<'a> {

@@ -14,7 +14,7 @@ abbrev rows : RunPlace → List Bool
 rows s = run_rows (held s.place)
 
 fits : (s : RunPlace) → Room (λ _ k. k) (length s.place.slots.now) (rows s)
-fits s = place-room s.place s.counts s.list
+fits s = place-room s.place s.counts.all s.list.whole s.list.counted s.list.within
 
 pub returns-then-run-eq0-clause-takes : goal.returns-then-run-eq0-clause-takes
 returns-then-run-eq0-clause-takes c =
