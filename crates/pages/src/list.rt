@@ -1,6 +1,6 @@
 // A page list that is accepted.
 ghost use Rattle.std.specs.Prelude.{◌≡◌, true, false, None, IfOk, IfErr};
-ghost use Rattle.refusals.specs.declared.fault.SelectionFault.TheVariants.{BadPage};
+ghost use Rattle.refusals.specs.Refusals.{no, selection, told_selection};
 ghost use Rattle.pages.specs.Pages.{accepted, in_order, last_first};
 
 use crate::page::PageLocation;
@@ -16,7 +16,7 @@ impl<'a> PageList<'a> {
     // Refused at the first page at fault, at 0 where there is no page.
     pub(crate) fn new(pages: &'a [PageLocation]) -> Result<PageList<'a>, SelectionFault>
         ensures list { IfOk result (λ l. l.pages.now ≡ pages.now) }
-        ensures fault { IfErr result (λ e. (accepted pages.now ≡ false) × (e ≡ BadPage (in_order None pages.now))) }
+        ensures fault { IfErr result (λ e. (accepted pages.now ≡ false) × (told_selection e ≡ no 6 (in_order None pages.now) selection)) }
     {
         if pages.is_empty() {
             return Err(SelectionFault::BadPage(0));

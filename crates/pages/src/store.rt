@@ -1,7 +1,6 @@
 // What is told of the pages that hold a selected row: counted where the place may be too small for it, then written.
 ghost use Rattle.std.specs.Prelude.{◌≡◌, ◌<◌, ◌≤◌, map, length, IfOk, IfErr};
-ghost use Rattle.refusals.specs.declared.fault.SelectionFault.TheVariants.{PlaceTooSmall};
-ghost use Rattle.refusals.specs.Refusals.{verdict};
+ghost use Rattle.refusals.specs.Refusals.{no, selection, told_selection, verdict};
 ghost use Rattle.pages.specs.Items.{stored, Stands, Tells};
 ghost use Rattle.pages.specs.Pages.{wanted_pages};
 
@@ -15,7 +14,7 @@ impl<'a> PageList<'a> {
     // Refuses a place of too few slots for the pages that hold a selected row. These are counted only where there are more pages than slots.
     fn check_room<S: RunSource>(&self, source: S, slots: usize) -> Result<(), SelectionFault>
         ensures few { IfOk result (λ _. length (wanted_pages self.now.pages.now (S.rows source)) ≤ slots) }
-        ensures many { IfErr result (λ e. (slots < length (wanted_pages self.now.pages.now (S.rows source))) × (e ≡ PlaceTooSmall (length (wanted_pages self.now.pages.now (S.rows source))))) }
+        ensures many { IfErr result (λ e. (slots < length (wanted_pages self.now.pages.now (S.rows source))) × (told_selection e ≡ no 12 (length (wanted_pages self.now.pages.now (S.rows source))) selection)) }
     {
         if self.pages.len() <= slots {
             return Ok(());
