@@ -1,5 +1,5 @@
 // A mask that owns its bytes.
-ghost use Rattle.std.specs.Prelude.{◌≡◌, Ok, IfOk};
+ghost use Rattle.std.specs.Prelude.{◌≡◌, Ok, IfOk, cond, [], is_ok};
 ghost use Rattle.refusals.specs.Refusals.{verdict};
 ghost use Rattle.bits.specs.Bits.{mask_rows};
 ghost use Rattle.bits.specs.Masks.{rows as rows_of_mask, answered, mask_verdict};
@@ -22,9 +22,25 @@ impl StoredMask {
     pub fn new(bytes: Vec<u8>, offset: usize, len: usize) -> Result<StoredMask, SelectionFault>
         ensures verdict { verdict (answered result) ≡ mask_verdict bytes.items offset len }
         ensures rows { IfOk result (λ m. mask_rows m.bytes.items m.offset m.len ≡ mask_rows bytes.items offset len) }
+        ensures fields { IfOk result (λ m. (m.bytes.items ≡ bytes.items) × (m.offset ≡ offset) × (m.len ≡ len)) }
     {
         Mask::check(bytes.as_slice(), offset, len)?;
         Ok(StoredMask { bytes, offset, len })
+    }
+
+    // The mask of these rows where the bytes have them, and else of none.
+    pub fn of(bytes: Vec<u8>, offset: usize, len: usize) -> StoredMask
+        ensures bytes { result.bytes.items ≡ bytes.items }
+        ensures rows { mask_rows result.bytes.items result.offset result.len ≡ cond (is_ok (mask_verdict bytes.items offset len)) (mask_rows bytes.items offset len) [] }
+    {
+        if Mask::check(bytes.as_slice(), offset, len).is_err() {
+            return StoredMask {
+                bytes,
+                offset: 0,
+                len: 0,
+            };
+        }
+        StoredMask { bytes, offset, len }
     }
 
     // The mask of these rows.
@@ -42,6 +58,21 @@ impl StoredMask {
         ensures { result.now ≡ self.now.bytes.items }
     {
         self.bytes.as_slice()
+    }
+
+    // The same bytes, given back.
+    pub fn into_bytes(self) -> Vec<u8>
+        ensures { result.items ≡ self.bytes.items }
+    {
+        let StoredMask { bytes, .. } = self;
+        bytes
+    }
+
+    // The bit of the bytes that is the first row.
+    pub fn offset(&self) -> usize
+        ensures { result ≡ self.now.offset }
+    {
+        self.offset
     }
 
     // A copy with the same bytes, the rows at the same place in them.

@@ -8,10 +8,10 @@ ghost use Rattle.selections.specs.Forms.{selection_rows};
 ghost use Rattle.stored.specs.Makes.{made as rows_made, masked, natural_mask, wrong as refused_by};
 ghost use Rattle.stored.specs.Shown.{fine-not-12, wrong-not-12};
 
-use cuts::trimming::Trimming;
 use policies::policy::Policy;
 use refusals::fault::SelectionFault;
 use selections::form::RowSelection;
+use selections::states::Selection;
 use words::sink::WordSink;
 
 // What writes a selection into whatever sink it is given. A closure would have to be generic over the sink.
@@ -81,7 +81,7 @@ impl<'a> Operate for Operation<'a> {
             Operation::Join(first, second) => first.join(second, out),
             Operation::Offset(of, n) => of.offset(*n, out),
             Operation::Limit(of, n) => of.limit(*n, out),
-            Operation::Trim(of) => of.trimmed().write(out),
+            Operation::Trim(of) => Selection::new(*of).trim().source().write(out),
         }
     }
 }

@@ -1,5 +1,5 @@
 // Why there is no result.
-ghost use Rattle.std.specs.Prelude.{◌≡◌};
+ghost use Rattle.std.specs.Prelude.{◌≡◌, alloc_error};
 ghost use Rattle.stored.specs.declared.trouble.Trouble.TheVariants.{Refused, NoMemory};
 
 use refusals::fault::SelectionFault;
@@ -28,5 +28,13 @@ impl From<AllocError> for Trouble {
 
     fn from(error: AllocError) -> Trouble {
         Trouble::NoMemory(error)
+    }
+}
+
+impl<T: Drop> From<AllocFailed<T>> for Trouble {
+    ghost from_gives = { λ _ t. t ≡ NoMemory alloc_error };
+
+    fn from(_: AllocFailed<T>) -> Trouble {
+        Trouble::NoMemory(AllocError)
     }
 }
