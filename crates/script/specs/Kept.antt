@@ -1,5 +1,6 @@
--- What a command leaves as it was.
-use Rattle.std.specs.Prelude.{◌≡◌, Ok, Err, Result}
+-- What a command leaves as it was, and how it flags what it writes.
+use Rattle.std.specs.Prelude.{ℕ, ◌≡◌, Bool, Ok, Err, Result, Some, slice_set}
+use Rattle.stored.specs.declared.held.Stored.{Stored}
 use Rattle.script.specs.declared.no.No.{No}
 use Rattle.script.specs.declared.no.No.TheVariants.{Misuse, Refused, NoMemory, Io}
 use Rattle.script.specs.declared.slots.Slots.{Slots}
@@ -19,3 +20,7 @@ WriteFailed (Err Misuse) = ⊥
 WriteFailed (Err (Refused f)) = ⊥
 WriteFailed (Err NoMemory) = ⊥
 WriteFailed (Err (Io e)) = Unit {0}
+
+-- one slot is written, and flagged as trimmed or not
+abbrev pub Written : Bool → Slots → Slots → Type 0
+Written flag s t = (n : ℕ) × ((made : Stored) × (t.slots.items ≡ slice_set s.slots.items n (Some (record { stored = made; trimmed = flag }))))

@@ -1,4 +1,6 @@
 // The sixteen slots of a script.
+ghost use Rattle.std.specs.Prelude.{◌≡◌, Some, slice_set};
+
 use crate::no::No;
 use selections::form::RowSelection;
 use std::alloc::{AllocError, Global};
@@ -6,9 +8,16 @@ use stored::held::Stored;
 
 const SLOTS: usize = 16;
 
+// A selection, and whether `trim` made it. Only opening asks for that.
+#[derive(Drop)]
+pub(crate) struct Slot {
+    pub(crate) stored: Stored,
+    pub(crate) trimmed: bool,
+}
+
 #[derive(Drop)]
 pub(crate) struct Slots {
-    slots: Vec<Option<Stored>>,
+    pub(crate) slots: Vec<Option<Slot>>,
 }
 
 impl Slots {
@@ -24,7 +33,7 @@ impl Slots {
     // What a slot holds. To ask an empty one is misuse.
     pub(crate) fn get(&self, slot: usize) -> Result<&Stored, No> {
         match self.slots.get(slot) {
-            Some(Some(stored)) => Ok(stored),
+            Some(Some(slot)) => Ok(&slot.stored),
             _ => Err(No::Misuse),
         }
     }
@@ -35,9 +44,11 @@ impl Slots {
     }
 
     // A selection into a slot, which forgets what it held.
-    pub(crate) fn put(&mut self, slot: usize, stored: Stored) {
+    pub(crate) fn put(&mut self, slot: usize, stored: Stored, trimmed: bool)
+        ensures { self.new.slots.items ≡ slice_set self.old.slots.items slot (Some (record { stored = stored; trimmed = trimmed })) }
+    {
         if let Some(held) = self.slots.get_mut(slot) {
-            *held = Some(stored);
+            *held = Some(Slot { stored, trimmed });
         }
     }
 

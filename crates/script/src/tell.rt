@@ -5,20 +5,25 @@ use crate::args::Args;
 use crate::digest::{digest, write_runs};
 use crate::no::No;
 use crate::session::Session;
-use std::io;
+use std::alloc::Global;
 use std::io::Write;
 use stored::operation::Operation;
 use stored::perform::into_mask;
 
-// Bytes as two digits each, and none as `-`.
-fn write_bytes<W: Write>(out: &mut W, bytes: &[u8]) -> io::Result<()> {
-    if bytes.is_empty() {
-        out.write_all(b"-")?;
-    }
+const DIGITS: [u8; 16] = *b"0123456789abcdef";
+
+// Bytes as two digits each, and none as `-`, with the end of the line. A long line goes out whole where it is written at once, and its digits are looked up, since formatting them takes many times as long.
+fn bytes_line(heap: Global, bytes: &[u8]) -> Result<Vec<u8>, No> {
+    let mut text = Vec::with_capacity(heap, bytes.len().saturating_mul(2).saturating_add(2))?;
     for byte in bytes {
-        write!(out, "{byte:02x}")?;
+        text.push(DIGITS[*byte as usize / 16])?;
+        text.push(DIGITS[*byte as usize % 16])?;
     }
-    Ok(())
+    if bytes.is_empty() {
+        text.push(b'-')?;
+    }
+    text.push(b'\n')?;
+    Ok(text)
 }
 
 impl<W: Write + Drop> Session<W> {
@@ -37,9 +42,9 @@ impl<W: Write + Drop> Session<W> {
     {
         let selection = self.slots.selection(args.slot(0)?)?;
         let mask = into_mask(self.heap, Operation::Convert(selection), args.number(1)?)?;
+        let text = bytes_line(self.heap, mask.bytes())?;
         self.out.write_all(b"bytes ")?;
-        write_bytes(&mut self.out, mask.bytes())?;
-        Ok(self.out.write_all(b"\n")?)
+        Ok(self.out.write_all(text.as_slice())?)
     }
 
     pub(crate) fn tell_count(&mut self, args: Args<'_>) -> Result<(), No>

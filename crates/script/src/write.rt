@@ -1,6 +1,6 @@
 // Commands that write slots.
-ghost use Rattle.std.specs.Prelude.{◌≡◌};
-ghost use Rattle.script.specs.Kept.{Kept, WriteFailed};
+ghost use Rattle.std.specs.Prelude.{◌≡◌, true, false, IfOk};
+ghost use Rattle.script.specs.Kept.{Kept, WriteFailed, Written};
 
 use crate::args::Args;
 use crate::no::No;
@@ -37,12 +37,20 @@ impl<W: Write + Drop> Session<W> {
         Ok(self.out.write_all(b"ok\n")?)
     }
 
-    // What was made, into the slot that is named first.
-    pub(crate) fn put(&mut self, args: Args<'_>, made: Stored) -> Result<(), No>
-        ensures { Kept result self.old.slots self.new.slots }
+    // What was made, into the slot that is named first, which is flagged as trimmed or not.
+    fn write(&mut self, args: Args<'_>, made: Stored, trimmed: bool) -> Result<(), No>
+        ensures kept { Kept result self.old.slots self.new.slots }
+        ensures flag { IfOk result (λ _. Written trimmed self.old.slots self.new.slots) }
     {
-        self.slots.put(args.slot(0)?, made);
+        self.slots.put(args.slot(0)?, made, trimmed);
         self.done()
+    }
+
+    pub(crate) fn put(&mut self, args: Args<'_>, made: Stored) -> Result<(), No>
+        ensures kept { Kept result self.old.slots self.new.slots }
+        ensures flag { IfOk result (λ _. Written false self.old.slots self.new.slots) }
+    {
+        self.write(args, made, false)
     }
 
     pub(crate) fn reset(&mut self) -> Result<(), No>
@@ -54,26 +62,31 @@ impl<W: Write + Drop> Session<W> {
 
     // The same rows in the same form.
     pub(crate) fn copy(&mut self, args: Args<'_>) -> Result<(), No>
-        ensures { Kept result self.old.slots self.new.slots }
+        ensures kept { Kept result self.old.slots self.new.slots }
+        ensures flag { IfOk result (λ _. Written false self.old.slots self.new.slots) }
     {
         let made = self.slots.get(args.slot(1)?)?.copy(self.heap)?;
         self.put(args, made)
     }
 
-    // A slot's rows made into others; its name and its place stand where the command has them.
-    pub(crate) fn one<F: for<'s> FnOnce(RowSelection<'s>) -> Operation<'s>>(
-        &mut self,
-        args: Args<'_>,
-        slot: usize,
-        place: usize,
-        operation: F,
-    ) -> Result<(), No>
-        requires { F.IsAlwaysCallable operation }
-        ensures { Kept result self.old.slots self.new.slots }
+    // The same rows in the form of the place.
+    pub(crate) fn convert(&mut self, args: Args<'_>) -> Result<(), No>
+        ensures kept { Kept result self.old.slots self.new.slots }
+        ensures flag { IfOk result (λ _. Written false self.old.slots self.new.slots) }
     {
-        let of = self.slots.selection(args.slot(slot)?)?;
-        let made = result(self.heap, operation(of), args.place(place)?)?;
+        let of = self.slots.selection(args.slot(1)?)?;
+        let made = result(self.heap, Operation::Convert(of), args.place(2)?)?;
         self.put(args, made)
+    }
+
+    // Without the skipped rows at its end, which flags the slot.
+    pub(crate) fn trim(&mut self, args: Args<'_>) -> Result<(), No>
+        ensures kept { Kept result self.old.slots self.new.slots }
+        ensures flag { IfOk result (λ _. Written true self.old.slots self.new.slots) }
+    {
+        let of = self.slots.selection(args.slot(0)?)?;
+        let made = result(self.heap, Operation::Trim(of), args.place(1)?)?;
+        self.write(args, made, true)
     }
 
     // A slot's rows, cut short by a number.
@@ -83,7 +96,8 @@ impl<W: Write + Drop> Session<W> {
         operation: F,
     ) -> Result<(), No>
         requires { F.IsAlwaysCallable operation }
-        ensures { Kept result self.old.slots self.new.slots }
+        ensures kept { Kept result self.old.slots self.new.slots }
+        ensures flag { IfOk result (λ _. Written false self.old.slots self.new.slots) }
     {
         let of = self.slots.selection(args.slot(0)?)?;
         let made = result(self.heap, operation(of, args.number(1)?), args.place(2)?)?;
@@ -97,7 +111,8 @@ impl<W: Write + Drop> Session<W> {
         operation: F,
     ) -> Result<(), No>
         requires { F.IsAlwaysCallable operation }
-        ensures { Kept result self.old.slots self.new.slots }
+        ensures kept { Kept result self.old.slots self.new.slots }
+        ensures flag { IfOk result (λ _. Written false self.old.slots self.new.slots) }
     {
         let first = self.slots.selection(args.slot(1)?)?;
         let second = self.slots.selection(args.slot(2)?)?;
@@ -122,8 +137,8 @@ impl<W: Write + Drop> Session<W> {
             room(args.place(3)?, of.is_mask()),
             room(args.place(4)?, of.is_mask()),
         )?;
-        self.slots.put(front, first);
-        self.slots.put(rest, second);
+        self.slots.put(front, first, false);
+        self.slots.put(rest, second, false);
         self.done()
     }
 }
