@@ -8,7 +8,8 @@ use crate::mask::Mask;
 use crate::word::{low_bits, word_at};
 
 impl<'a> Mask<'a> {
-    // The 64 rows from row `at` on, the first of them as bit 0; the bits past the last row are 0.
+    // The 64 rows from row `at` on, the first of them as bit 0; the bits past the last row are 0. It stays a call: inlined, it makes the steps that ask for a word too long to be inlined themselves.
+    #[inline(never)]
     pub fn word(&self, at: usize) -> u64
         ensures { (k : ℕ) → k < 64 → bit_at result k ≡ Selects (rows self.now) (at + k) }
     {

@@ -13,7 +13,8 @@ impl<'a> Mask<'a> {
         ensures within { result ≤ self.now.len }
         ensures stretch { result ≡ from + leading set (drop from (rows self.now)) }
     {
-        for at in (from..self.len).step_by(64) {
+        for i in 0..(self.len - from).div_ceil(64) {
+            let at = from + 64 * i;
             let n = same_bits(word_at(self.bytes, self.offset + at), set);
             if n < 64 {
                 return (at + n).min(self.len);

@@ -12,28 +12,41 @@ pub(crate) fn bit_at(bytes: &[u8], p: usize) -> bool
     (bytes[p / 8] >> (p % 8)) & 1 == 1
 }
 
-// Fewer than eight bytes as a word, of which what lies past them is 0. It is no part of its caller, which reads whole words without memory of its own.
-#[inline(never)]
-fn short_word(rest: &[u8]) -> u64
-    requires { length rest.now ≤ 8 }
-    ensures { word_rows result 64 ≡ mask_rows rest.now 0 64 }
+// The byte at place i, and 0 past the end.
+fn byte_or_zero(bytes: &[u8], i: usize) -> u8
+    ensures { result ≡ slice_index bytes.now i }
 {
-    let mut eight = [0; 8];
-    eight[..rest.len()].copy_from_slice(rest);
-    u64::from_le_bytes(eight)
+    bytes.get(i).copied().unwrap_or(0)
 }
 
-// The word of eight bytes from byte i on; what lies past the end is 0.
-fn eight_bytes(bytes: &[u8], i: usize) -> u64
+// The word of eight bytes from byte i on, of which what lies past the end is 0. They are taken one by one, since a copy of so few takes longer.
+fn last_bytes(bytes: &[u8], i: usize) -> u64
+    requires { i + 8 < 2 ^ 64 }
     ensures { word_rows result 64 ≡ mask_rows bytes.now (8 * i) 64 }
 {
-    let Some(rest) = bytes.get(i..) else {
-        return 0;
-    };
-    if let Some(eight) = rest.first_chunk::<8>() {
-        return u64::from_le_bytes(*eight);
+    u64::from_le_bytes([
+        byte_or_zero(bytes, i),
+        byte_or_zero(bytes, i + 1),
+        byte_or_zero(bytes, i + 2),
+        byte_or_zero(bytes, i + 3),
+        byte_or_zero(bytes, i + 4),
+        byte_or_zero(bytes, i + 5),
+        byte_or_zero(bytes, i + 6),
+        byte_or_zero(bytes, i + 7),
+    ])
+}
+
+// The same where there are mostly as many bytes.
+fn eight_bytes(bytes: &[u8], i: usize) -> u64
+    requires { i + 8 < 2 ^ 64 }
+    ensures { word_rows result 64 ≡ mask_rows bytes.now (8 * i) 64 }
+{
+    if let Some(whole) = bytes.get(i..i + 8) {
+        if let Some(eight) = whole.first_chunk::<8>() {
+            return u64::from_le_bytes(*eight);
+        }
     }
-    short_word(rest)
+    last_bytes(bytes, i)
 }
 
 // The 64 rows from bit p on; those past the bytes read as 0.
@@ -42,8 +55,9 @@ pub fn word_at(bytes: &[u8], p: usize) -> u64
 {
     let i = p / 8;
     let by = p % 8;
-    let low = eight_bytes(bytes, i);
+    // First the byte above: where there is one, the eight below it need no test.
     let high = bytes.get(i + 8).copied().unwrap_or(0) as u64;
+    let low = eight_bytes(bytes, i);
     (low >> by) | ((high << 1) << (63 - by))
 }
 
