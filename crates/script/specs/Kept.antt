@@ -1,5 +1,5 @@
 -- What a command leaves as it was, and how it flags what it writes.
-use Rattle.std.specs.Prelude.{ℕ, ◌≡◌, Bool, Ok, Err, Result, Some, slice_set}
+use Rattle.std.specs.Prelude.{ℕ, ◌≡◌, Bool, false, Ok, Err, Result, Some, slice_set}
 use Rattle.stored.specs.declared.held.Stored.{Stored}
 use Rattle.script.specs.declared.no.No.{No}
 use Rattle.script.specs.declared.no.No.TheVariants.{Misuse, Refused, NoMemory, Io}
@@ -21,6 +21,10 @@ WriteFailed (Err (Refused f)) = ⊥
 WriteFailed (Err NoMemory) = ⊥
 WriteFailed (Err (Io e)) = Unit {0}
 
--- one slot is written, and flagged as trimmed or not
+-- no slot but one may change, and what is written into it is flagged as trimmed or not
 abbrev pub Written : Bool → Slots → Slots → Type 0
 Written flag s t = (n : ℕ) × ((made : Stored) × (t.slots.items ≡ slice_set s.slots.items n (Some (record { stored = made; trimmed = flag }))))
+
+-- two slots may change, one after the other, and neither is flagged
+abbrev pub WrittenBoth : Slots → Slots → Type 0
+WrittenBoth s t = (u : Slots) × (Written false s u × Written false u t)

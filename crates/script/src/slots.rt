@@ -8,7 +8,7 @@ use stored::held::Stored;
 
 const SLOTS: usize = 16;
 
-// A selection, and whether `trim` made it. Only opening asks for that.
+// A selection, and whether `trim` made it. Nothing asks for that until something is opened.
 #[derive(Drop)]
 pub(crate) struct Slot {
     pub(crate) stored: Stored,

@@ -1,6 +1,6 @@
 // Commands that write slots.
 ghost use Rattle.std.specs.Prelude.{◌≡◌, true, false, IfOk};
-ghost use Rattle.script.specs.Kept.{Kept, WriteFailed, Written};
+ghost use Rattle.script.specs.Kept.{Kept, WriteFailed, Written, WrittenBoth};
 
 use crate::args::Args;
 use crate::no::No;
@@ -122,7 +122,8 @@ impl<W: Write + Drop> Session<W> {
 
     // The first rows into one slot, and the rest into the slot they came from.
     pub(crate) fn split(&mut self, args: Args<'_>) -> Result<(), No>
-        ensures { Kept result self.old.slots self.new.slots }
+        ensures kept { Kept result self.old.slots self.new.slots }
+        ensures flag { IfOk result (λ _. WrittenBoth self.old.slots self.new.slots) }
     {
         let front = args.slot(0)?;
         let rest = args.slot(1)?;
